@@ -1,5 +1,5 @@
 -- The trace of a whole run within a budget.
-use Rattle.std.specs.Prelude.{◌≡◌, ℕ, ◌≤◌, List, []}
+use Rattle.std.specs.Prelude.{◌≡◌, ℕ, ◌≤◌, List, [], slice_index}
 use Rattle.trips_isa.specs.declared.block.Block.{Block}
 use Rattle.trips_isa.specs.declared.run.Ending.{Ending}
 use Rattle.trips_isa.specs.declared.run.Ending.TheVariants as ending
@@ -23,10 +23,13 @@ ending_of stepped.Ended next = ending.Ended
 ending_of stepped.StackFull next = ending.StackFull
 ending_of (stepped.Trap cause) next = ending.Trap next cause
 
--- the bytes are the longest trace of a run from a state within a budget, and this is how the run ends
-pub record IsRecorded (blocks : List Block) (s : State) (budget : ℕ) (bytes : List ℕ) (ended : Ending) : Type 0 where
+-- The bytes are the longest trace of a run from a state within a budget, and this is how the run ends, with this word
+-- in register 3.
+pub record IsRecorded (blocks : List Block) (s : State) (budget : ℕ) (bytes : List ℕ) (ended : Ending) (word : ℕ)
+    : Type 0 where
   pub blocks_run : ℕ
   pub trace : IsTrace blocks s blocks_run bytes
   pub within : blocks_run ≤ budget
   pub greatest : (n : ℕ) → n ≤ budget → HasEntries blocks s n → n ≤ blocks_run
   pub ending : ended ≡ ending_of (runs blocks s budget).1 (runs blocks s budget).0.next
+  pub result : word ≡ slice_index (runs blocks s budget).0.registers 3

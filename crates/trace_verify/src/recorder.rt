@@ -128,20 +128,20 @@ fn ending_of(answer: Stepped, next: u32) -> Ending
     }
 }
 
-/// The trace of an image's run on an input within a budget of blocks, and how the run ended. Want of memory is the
-/// only error.
+/// The trace of an image's run on an input within a budget of blocks, how the run ended, and the word in register 3 at
+/// its end. Want of memory is the only error.
 pub fn record_run(
     alloc: Global,
     image: &CheckedImage,
     input: Vec<u8>,
     budget: u32,
-) -> Result<(Vec<u8>, Ending), Memory>
+) -> Result<(Vec<u8>, Ending, u64), Memory>
     ensures recorded { IfOk result (λ r.
-        IsRecorded image.now.blocks (start image.now.bytes input.items) budget r.0.items r.1) }
+        IsRecorded image.now.blocks (start image.now.bytes input.items) budget r.0.items r.1 r.2) }
 {
     let mut arch = Arch::make(alloc, image, input, budget)?;
     let mut out = Vec::from_slice(alloc, b"TRIPSTRC\0\0\0\x01")?;
     let answer = record_steps(&mut arch, image, &mut out, budget)?;
     out.extend_from_slice(&[255; 4])?;
-    Ok((out, ending_of(answer, arch.next())))
+    Ok((out, ending_of(answer, arch.next()), arch.register(3)))
 }

@@ -102,7 +102,7 @@ pub fn recorded(
 ) -> Result<(Vec<u8>, Ending), Fail> {
     let image = checked(alloc, text)?;
     match record_run(alloc, &image, Vec::from_slice(alloc, input)?, budget) {
-        Ok(recorded) => Ok(recorded),
+        Ok((bytes, ending, _)) => Ok((bytes, ending)),
         Err(_) => Err(Fail::from(AllocError)),
     }
 }

@@ -46,6 +46,7 @@ module _ (held : List ℕ → Option (List ℕ)) (rose : Type 0) (old new : Opti
   split status.StackFull a = inr (inr a)
   split status.Trap a = inr (inr a)
   split status.Undefined a = inr (inr a)
+  split status.Aborted a = inr (inr a)
 
   -- a whole report makes the row of its status
   pub whole : (s : Status) (report : List ℕ) → IsAnswer q held rose s report
@@ -63,6 +64,7 @@ module _ (held : List ℕ → Option (List ℕ)) (rose : Type 0) (old new : Opti
   whole status.StackFull report a w = (report, a, w)
   whole status.Trap report a w = (report, a, w)
   whole status.Undefined report a w = (report, a, w)
+  whole status.Aborted report a w = (report, a, w)
 
   -- a first part of it makes the row of a fault of the writing
   pub part : (other : Status) (report : List ℕ) → IsAnswer q held rose other report
@@ -184,29 +186,32 @@ module _ (held : List ℕ → Option (List ℕ)) (rose : Type 0) (old new : Opti
 
   -- the statuses that tell an end are these
   pub end_told : (s : Status) → IsOneOf s
-      (status.Ended ∷ status.Budget ∷ status.StackFull ∷ status.Trap ∷ status.Undefined ∷ []) → is_told s ≡ true
+      (status.Ended ∷ status.Budget ∷ status.StackFull ∷ status.Trap ∷ status.Undefined ∷ status.Aborted ∷ [])
+      → is_told s ≡ true
   unfolding is_told
   end_told s (inl e) = ap is_told e
   end_told s (inr (inl e)) = ap is_told e
   end_told s (inr (inr (inl e))) = ap is_told e
   end_told s (inr (inr (inr (inl e)))) = ap is_told e
   end_told s (inr (inr (inr (inr (inl e))))) = ap is_told e
-  end_told s (inr (inr (inr (inr (inr none))))) = absurd none
+  end_told s (inr (inr (inr (inr (inr (inl e)))))) = ap is_told e
+  end_told s (inr (inr (inr (inr (inr (inr none)))))) = absurd none
 
   eval_told : (s : Status)
-      → IsOneOf s (status.Ended ∷ status.Budget ∷ status.StackFull ∷ status.Undefined ∷ [])
+      → IsOneOf s (status.Ended ∷ status.Budget ∷ status.StackFull ∷ status.Undefined ∷ status.Aborted ∷ [])
       → is_told s ≡ true
   unfolding is_told
   eval_told s (inl e) = ap is_told e
   eval_told s (inr (inl e)) = ap is_told e
   eval_told s (inr (inr (inl e))) = ap is_told e
   eval_told s (inr (inr (inr (inl e)))) = ap is_told e
-  eval_told s (inr (inr (inr (inr none)))) = absurd none
+  eval_told s (inr (inr (inr (inr (inl e))))) = ap is_told e
+  eval_told s (inr (inr (inr (inr (inr none))))) = absurd none
 
   -- the status of an evaluation that ended is that of its end
   pub eval_ends : (s : Status) → IsAnswered q held rose old new cut s → (x : Request)
       → q ≡ Some x → x.work ≡ Evaluate
-      → IsOneOf s (status.Ended ∷ status.Budget ∷ status.StackFull ∷ status.Undefined ∷ [])
+      → IsOneOf s (status.Ended ∷ status.Budget ∷ status.StackFull ∷ status.Undefined ∷ status.Aborted ∷ [])
       → EndsAs held x s
   eval_ends s a x e w one = ends s a x e (eval_told s one)
 
@@ -217,26 +222,27 @@ module _ (held : List ℕ → Option (List ℕ)) (rose : Type 0) (old new : Opti
   made_ends s a x e is = ends s a x e (ap is_told is)
 
   run_told : (s : Status)
-      → IsOneOf s (status.Ended ∷ status.Budget ∷ status.StackFull ∷ status.Trap ∷ [])
+      → IsOneOf s (status.Ended ∷ status.Budget ∷ status.StackFull ∷ status.Trap ∷ status.Aborted ∷ [])
       → is_told s ≡ true
   unfolding is_told
   run_told s (inl e) = ap is_told e
   run_told s (inr (inl e)) = ap is_told e
   run_told s (inr (inr (inl e))) = ap is_told e
   run_told s (inr (inr (inr (inl e)))) = ap is_told e
-  run_told s (inr (inr (inr (inr none)))) = absurd none
+  run_told s (inr (inr (inr (inr (inl e))))) = ap is_told e
+  run_told s (inr (inr (inr (inr (inr none))))) = absurd none
 
   -- the status of a run that ended is that of its end
   pub run_ends : (s : Status) → IsAnswered q held rose old new cut s → (x : Request)
       → q ≡ Some x → x.work ≡ Run
-      → IsOneOf s (status.Ended ∷ status.Budget ∷ status.StackFull ∷ status.Trap ∷ [])
+      → IsOneOf s (status.Ended ∷ status.Budget ∷ status.StackFull ∷ status.Trap ∷ status.Aborted ∷ [])
       → EndsAs held x s
   run_ends s a x e w one = ends s a x e (run_told s one)
 
   -- a text's run whose end is told
   pub text_ends : (s : Status) → IsAnswered q held rose old new cut s → (x : Request)
       → q ≡ Some x → x.work ≡ Run → x.form ≡ form.Source
-      → IsOneOf s (status.Ended ∷ status.Budget ∷ status.StackFull ∷ status.Trap ∷ [])
+      → IsOneOf s (status.Ended ∷ status.Budget ∷ status.StackFull ∷ status.Trap ∷ status.Aborted ∷ [])
       → RunEndsAs held x s
   text_ends s a x e w f one =
       let e = ends s a x e (run_told s one) in

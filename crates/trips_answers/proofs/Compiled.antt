@@ -1,7 +1,8 @@
 -- What the run of a compiled program is told to come to.
 use Rattle.std.proofs.Common.{◌≡◌, ℕ, ℤ, ◌+◌, ◌*◌, ◌<◌, ◌≤◌, List, [], ◌++◌, slice_index, refl, sym, ap, ◌∙◌, subst}
-use Rattle.std.proofs.Common.{length, Option, Some, arith}
-use Rattle.std.specs.Prelude.{codes}
+use Rattle.std.proofs.Common.{length, Option, Some, Bool, true, false, arith}
+use Rattle.std.specs.Prelude.{codes, cond, ◌==◌}
+use Rattle.std.specs.Int.{w64, cast_unsigned}
 use Rattle.std.specs.Fmt.{signed_decimal}
 use Rattle.trips_outside.specs.Outside.{Holds}
 use Rattle.trips_isa.specs.declared.block.Image.{Image}
@@ -19,10 +20,10 @@ use Rattle.c_front.proofs.Once.{accepted_once}
 use Rattle.c_compile_laws.specs.Runs.{run_of, HasEnded, IsFull, AnswersAs}
 use Rattle.c_compile.specs.Images.{IsImageOf, MeansText}
 use Rattle.c_compile.proofs.Images.{images_mean}
-use Rattle.operand_net.specs.declared.weather.PcgWeather.{PcgWeather}
 use Rattle.grid_cycle_spec.specs.Grid.{Grid}
 use Rattle.grid_machine.specs.Answered.{ComesTo}
-use Rattle.grid_machine.specs.Seeds.{IsRan}
+use Rattle.grid_cycle.specs.Conditions.{IsRan}
+use Rattle.grid_cycle.specs.declared.weather.AnyWeather.{AnyWeather}
 use Rattle.grid_cycle.specs.Traps.{is_trap}
 use Rattle.grid_meaning.specs.Meant.{AgreesWith, EndsAsMeant}
 use Rattle.grid_meaning.proofs.GridRuns as runs
@@ -38,6 +39,7 @@ use Rattle.trips_answers.specs.Read.{HoldsInput}
 use Rattle.grid_cycle_spec.specs.Costs.{cost_of}
 use Rattle.trips_report.specs.declared.measured.Measured.{Measured}
 use Rattle.trips_report.specs.declared.show.Show.{Show}
+use Rattle.trips_requests.specs.Results.{aborted_word, end_line, end_status, result_line, result_status}
 use Rattle.trips_requests.specs.Texts.{output_and}
 use Rattle.trips_report.specs.Runs.{signed}
 use Rattle.trips_report.proofs.ListedTexts.{shows_nothing}
@@ -47,7 +49,7 @@ use Rattle.trips_answers.specs.Worked.{IsRunOfText}
 use Rattle.trips_outside.specs.Outside.{Appended}
 use Rattle.trips_answers.specs.Evaluated.{SaysOf, HasNotEnded, RunEndsAs, TellsResult}
 use Rattle.trips_answers.specs.Ended.{ResultMeans}
-use Rattle.trips_answers.proofs.Results.{signed_number}
+use Rattle.trips_answers.proofs.Results.{number_word, result_said, signed_number}
 
 -- an image of a text has a block
 pub has_blocks : (text : List ℕ) (p : Placing) (turns : ℕ) (i : Image) → IsImageOf text p turns i
@@ -74,10 +76,19 @@ pub ended : (r : State × Stepped) (output : List ℕ) (value : ℤ) → HasEnde
     → run_report (ending_of r.1 r.0.next) r.0 ≡ ended_report output value
 ended r output value h =
     let e : ending_of r.1 r.0.next ≡ ending.Ended = ap (λ (a : Stepped). ending_of a r.0.next) h.answer in
-    let digits = signed_number (slice_index r.0.registers 3) h.word.below ∙ ap signed_decimal h.is in
+    let w : ℕ = slice_index r.0.registers 3 in
+    let digits = signed_number w h.word.below ∙ ap signed_decimal h.is in
     ap (λ (x : Ending). run_report x r.0) e
-    ∙ ap (λ (t : List ℕ). output_and r.0.output (codes "result " ++ t)) digits
-    ∙ ap (λ (o : List ℕ). output_and o (codes "result " ++ signed_decimal value)) h.output
+    ∙ ap (λ (t : List ℕ). output_and r.0.output (end_line w t)) digits
+    ∙ ap (λ (v : ℕ). output_and r.0.output (end_line v (signed_decimal value)))
+    (number_word w value h.word.below h.is)
+    ∙ ap (λ (o : List ℕ). output_and o (result_line value)) h.output
+
+-- and its status
+pub ended_so : (r : State × Stepped) (output : List ℕ) (value : ℤ) → HasEnded output value r
+    → status_of (ending_of r.1 r.0.next) r.0 ≡ result_status value
+ended_so r output value h = ap (λ (a : Stepped). status_of (ending_of a r.0.next) r.0) h.answer
+    ∙ ap end_status (number_word (slice_index r.0.registers 3) value h.word.below h.is)
 
 -- the report of a run whose stack is full tells the output so far
 pub full : (r : State × Stepped) (output : List ℕ) → IsFull output r
@@ -86,6 +97,14 @@ full r output h =
     let e : ending_of r.1 r.0.next ≡ ending.StackFull = ap (λ (a : Stepped). ending_of a r.0.next) h.answer in
     ap (λ (x : Ending). run_report x r.0) e
     ∙ ap (λ (o : List ℕ). output_and o (codes "stack full")) h.output
+
+-- an end is no spent budget
+not_spent : (w : ℕ) → status.Budget ≡ end_status w → ⊥
+not_spent w = go (w == aborted_word)
+  where
+    go : (b : Bool) → status.Budget ≡ cond b status.Aborted status.Ended → ⊥
+    go true e = absurd (cc)
+    go false e = absurd (cc)
 
 module _ (settings : Settings) (n : ℕ) (text input : List ℕ) (program : TypedProgram) (s : Status)
     (report : List ℕ) (run : IsRunOfText settings text input s report)
@@ -103,16 +122,15 @@ module _ (settings : Settings) (n : ℕ) (text input : List ℕ) (program : Type
       settings.most n accepted means run.2 output value steps done enough
 
   finished_status : (output : List ℕ) (value : ℤ) (steps : ℕ)
-      → eval program input n ≡ Done output value steps → s ≡ status.Ended
-  finished_status output value steps done =
-      run.3.2.0 ∙ ap (λ (a : Stepped). status_of (ending_of a (run_of run.0 input settings.most).0.next))
-      (finished_run output value steps done).answer
+      → eval program input n ≡ Done output value steps → s ≡ result_status value
+  finished_status output value steps done = run.3.2.0
+      ∙ ended_so (run_of run.0 input settings.most) output value (finished_run output value steps done)
 
   -- where the program's meaning ends with a value, its run ends, and the report tells this value, and behind it
   -- what is to be shown
   pub finished_shown : (output : List ℕ) (value : ℤ) (steps : ℕ)
       → eval program input n ≡ Done output value steps
-      → (s ≡ status.Ended) × ((run_of run.0 input settings.most).1 ≡ stepped.Ended)
+      → (s ≡ result_status value) × ((run_of run.0 input settings.most).1 ≡ stepped.Ended)
       × (report ≡ shown_behind (ended_report output value) (run_of run.0 input settings.most).0 run.3.0
       (cost_of run.0.blocks (run_of run.0 input settings.most).0.trace) settings.show)
   finished_shown output value steps done = (
@@ -128,24 +146,24 @@ module _ (settings : Settings) (n : ℕ) (text input : List ℕ) (program : Type
       → EndsAsMeant run.0 input settings.most [] output value ending.Ended run.3.1.grid
   finished_grid output value steps done =
       let r : State × Stepped = run_of run.0 input settings.most in
-      let h : Grid PcgWeather = run.3.1.grid in
+      let h : Grid AnyWeather = run.3.1.grid in
       let e : ending_of r.1 r.0.next ≡ ending.Ended =
       ap (λ (a : Stepped). ending_of a r.0.next) (finished_run output value steps done).answer in
-      let ran : IsRan run.0.blocks run.0.bytes input settings.most settings.seed (Some ending.Ended) h =
-      subst (λ (x : Ending). IsRan run.0.blocks run.0.bytes input settings.most settings.seed (Some x) h) e
+      let ran : IsRan run.0.blocks run.0.bytes input settings.most settings.conditions (Some ending.Ended) h =
+      subst (λ (x : Ending). IsRan run.0.blocks run.0.bytes input settings.most settings.conditions (Some x) h) e
       run.3.1.ran in
       let came : ComesTo run.0.blocks (start run.0.bytes input) settings.most ending.Ended h = ran.comes in
       let cost : h.counts.cycles ≤ cost_of run.0.blocks r.0.trace =
       subst (λ (c : Counts). c.cycles ≤ cost_of run.0.blocks r.0.trace) run.3.1.counted
       (run.3.1.within (ap is_trap e)) in
-      runs.seed_as_meant text input settings.placing settings.unroll run.0 means settings.most settings.seed
+      runs.ran_as_meant text input settings.placing settings.unroll run.0 means settings.most settings.conditions
       ending.Ended h ran n program output value steps accepted run.2 done enough
       (subst (λ (t : State). h.counts.cycles ≤ cost_of run.0.blocks t.trace) (sym came.state) cost)
 
   -- where nothing is to be shown, the report of such a run tells the value alone
   pub finished_told : (output : List ℕ) (value : ℤ) (steps : ℕ) → settings.show ≡ nothing_shown
       → eval program input n ≡ Done output value steps
-      → (s ≡ status.Ended) × (report ≡ ended_report output value)
+      → (s ≡ result_status value) × (report ≡ ended_report output value)
   finished_told output value steps none done =
       let told = finished_shown output value steps done in (
         told.0,
@@ -164,8 +182,8 @@ module _ (settings : Settings) (n : ℕ) (text input : List ℕ) (program : Type
   deep_status : (output : List ℕ) → eval program input n ≡ Stopped Deep output
       → s ≡ status.StackFull
   deep_status output deep =
-      run.3.2.0 ∙ ap (λ (a : Stepped). status_of (ending_of a (run_of run.0 input settings.most).0.next))
-      (deep_run output deep).answer
+      run.3.2.0 ∙ ap (λ (a : Stepped). status_of (ending_of a (run_of run.0 input settings.most).0.next)
+      (run_of run.0 input settings.most).0) (deep_run output deep).answer
 
   -- where the program's meaning is stopped for its depth, the machine's stack is full, and the report tells
   -- this, and behind it what is to be shown
@@ -202,28 +220,35 @@ module _ (settings : Settings) (n : ℕ) (text input : List ℕ) (program : Type
       go (Stopped Deep output) e =
           let told : status.Budget ≡ status.StackFull = sym spent ∙ deep_status output e in absurd (cc)
       go (Done output value steps) e =
-          let told : status.Budget ≡ status.Ended = sym spent ∙ finished_status output value steps e in
-          absurd (cc)
+          absurd (not_spent (cast_unsigned w64 value) (sym spent ∙ finished_status output value steps e))
 
 -- CAUSES
 
-says : (a : Stepped) (next : ℕ) (o : Outcome) → AnswersAs a o → SaysOf (status_of (ending_of a next)) o
-says stepped.Went next (Stopped More output) h = tt
-says stepped.Went next (Stopped Undefined output) h = tt
-says stepped.Went next (Stopped Deep output) h = tt
-says stepped.Went next (Done output value steps) h = tt
-says stepped.Ended next (Stopped More output) h = absurd h
-says stepped.Ended next (Stopped Undefined output) h = tt
-says stepped.Ended next (Stopped Deep output) h = absurd h
-says stepped.Ended next (Done output value steps) h = tt
-says stepped.StackFull next (Stopped More output) h = absurd h
-says stepped.StackFull next (Stopped Undefined output) h = tt
-says stepped.StackFull next (Stopped Deep output) h = tt
-says stepped.StackFull next (Done output value steps) h = absurd h
-says (stepped.Trap cause) next (Stopped More output) h = absurd h
-says (stepped.Trap cause) next (Stopped Undefined output) h = tt
-says (stepped.Trap cause) next (Stopped Deep output) h = absurd h
-says (stepped.Trap cause) next (Done output value steps) h = absurd h
+-- what ends says that the evaluation is done or undefined, with a result or with an abort
+says_ended : (b : Bool) (o : Outcome) → AnswersAs stepped.Ended o → SaysOf (cond b status.Aborted status.Ended) o
+says_ended true (Stopped More output) h = absurd h
+says_ended true (Stopped Undefined output) h = tt
+says_ended true (Stopped Deep output) h = absurd h
+says_ended true (Done output value steps) h = tt
+says_ended false (Stopped More output) h = absurd h
+says_ended false (Stopped Undefined output) h = tt
+says_ended false (Stopped Deep output) h = absurd h
+says_ended false (Done output value steps) h = tt
+
+says : (a : Stepped) (t : State) (o : Outcome) → AnswersAs a o → SaysOf (status_of (ending_of a t.next) t) o
+says stepped.Went t (Stopped More output) h = tt
+says stepped.Went t (Stopped Undefined output) h = tt
+says stepped.Went t (Stopped Deep output) h = tt
+says stepped.Went t (Done output value steps) h = tt
+says stepped.Ended t o h = says_ended (slice_index t.registers 3 == aborted_word) o h
+says stepped.StackFull t (Stopped More output) h = absurd h
+says stepped.StackFull t (Stopped Undefined output) h = tt
+says stepped.StackFull t (Stopped Deep output) h = tt
+says stepped.StackFull t (Done output value steps) h = absurd h
+says (stepped.Trap cause) t (Stopped More output) h = absurd h
+says (stepped.Trap cause) t (Stopped Undefined output) h = tt
+says (stepped.Trap cause) t (Stopped Deep output) h = absurd h
+says (stepped.Trap cause) t (Done output value steps) h = absurd h
 
 -- the end of a text's run, of names that hold the text and the input
 pub run_ends_as : (held : List ℕ → Option (List ℕ)) (q : Request) (text input : List ℕ) (s : Status)
@@ -242,7 +267,7 @@ run_ends_as held q text input s report holds holds_input run =
       tokens = m.tokens;
       lexed = m.lexed;
       says = λ n lt. subst (λ (x : Status). SaysOf x (eval m.program input n)) (sym run.3.2.0)
-          (says r.1 r.0.next (eval m.program input n) (m.ends input run.2 q.most n lt));
+          (says r.1 r.0 (eval m.program input n) (m.ends input run.2 q.most n lt));
       spent = λ spent n enough.
           spent_told (settings_of q) n text input m.program s report run m.accepted enough spent;
     }
@@ -250,11 +275,11 @@ run_ends_as held q text input s report holds holds_input run =
 -- RESULTS
 
 -- only an end has the status of an end
-end_of : (a : Stepped) (next : ℕ) → status_of (ending_of a next) ≡ status.Ended → a ≡ stepped.Ended
-end_of stepped.Went next e = absurd (cc)
-end_of stepped.Ended next e = refl
-end_of stepped.StackFull next e = absurd (cc)
-end_of (stepped.Trap cause) next e = absurd (cc)
+end_of : (a : Stepped) (t : State) → status_of (ending_of a t.next) t ≡ status.Ended → a ≡ stepped.Ended
+end_of stepped.Went t e = absurd (cc)
+end_of stepped.Ended t e = refl
+end_of stepped.StackFull t e = absurd (cc)
+end_of (stepped.Trap cause) t e = absurd (cc)
 
 tells : (r : State × Stepped) (few : Type 0) (o : Outcome) → AgreesWith r few o
     → TellsResult r.0.output (signed (slice_index r.0.registers 3)) few o
@@ -272,10 +297,17 @@ pub result_means : (held : List ℕ → Option (List ℕ)) (q : Request) (text i
 result_means held q text input s report old new holds holds_input run ended written =
     let m : MeansText text q.placing q.unroll run.0 = images_mean text q.placing q.unroll run.0 run.1 in
     let r : State × Stepped = run_of run.0 input q.most in
-    let is : r.1 ≡ stepped.Ended = end_of r.1 r.0.next (sym run.3.2.0 ∙ ended) in
+    let w : ℕ = slice_index r.0.registers 3 in
+    let has : status_of (ending_of r.1 r.0.next) r.0 ≡ status.Ended = sym run.3.2.0 ∙ ended in
+    let is : r.1 ≡ stepped.Ended = end_of r.1 r.0 has in
     let e : ending_of r.1 r.0.next ≡ ending.Ended = ap (λ (a : Stepped). ending_of a r.0.next) is in
-    let told : report ≡ shown_report ending.Ended r.0 run.3.0 (cost_of run.0.blocks r.0.trace) q.show =
-    run.3.2.1 ∙ ap (λ (x : Ending). shown_report x r.0 run.3.0 (cost_of run.0.blocks r.0.trace) q.show) e in
+    let end : end_status w ≡ status.Ended = sym (ap (λ (x : Ending). status_of x r.0) e) ∙ has in
+    let line : end_line w (signed w) ≡ codes "result " ++ signed w = result_said w (signed w) end in
+    let told : report ≡ shown_behind (output_and r.0.output (codes "result " ++ signed w)) r.0 run.3.0
+    (cost_of run.0.blocks r.0.trace) q.show =
+    run.3.2.1 ∙ ap (λ (x : Ending). shown_report x r.0 run.3.0 (cost_of run.0.blocks r.0.trace) q.show) e
+    ∙ ap (λ (l : List ℕ). shown_behind (output_and r.0.output l) r.0 run.3.0 (cost_of run.0.blocks r.0.trace) q.show)
+    line in
     record {
       text = text;
       input = input;

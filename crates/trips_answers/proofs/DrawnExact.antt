@@ -8,8 +8,8 @@ use Rattle.c_compile.specs.Images.{IsImageOf}
 use Rattle.block_image.specs.Spelling.{ImageBytes}
 use Rattle.block_image.proofs.Prefix.{one_image}
 use Rattle.block_check.specs.Faults.{IsGood}
-use Rattle.target_asm_spec.specs.Text.{TargetText}
-use Rattle.target_asm_spec.proofs.Images as texts
+use Rattle.target_file.specs.Files.{TargetFile}
+use Rattle.target_file.proofs.Laws as files
 use Rattle.trips_draw_answers.specs.Drawn.{IsBlockDrawn}
 use Rattle.trips_requests.specs.declared.status.Status.{Status}
 use Rattle.trips_answers.specs.Work.{Draw}
@@ -39,10 +39,10 @@ drawn_image_exact settings bytes input s report image (inr run) spelled good =
 
 -- with the text of an image of good blocks
 pub drawn_target_exact : (settings : Settings) (text input : List ℕ) (s : Status) (report : List ℕ)
-    (image : Image) → IsDone Draw form.Target settings text input s report → TargetText image text
+    (image : Image) → IsDone Draw form.Target settings text input s report → TargetFile image text
     → All IsGood image.blocks → IsBlockDrawn image.blocks (settings.most - 1) s report
 drawn_target_exact settings text input s report image (inl x) spelled good =
     absurd (target_not_refused text x.0 image spelled good x.1)
 drawn_target_exact settings text input s report image (inr run) spelled good =
     subst (λ (i : Image). IsBlockDrawn i.blocks (settings.most - 1) s report)
-    (texts.one_image run.0 image text run.1.0 spelled) run.2
+    (files.one_image run.0 image text run.1.0 spelled) run.2

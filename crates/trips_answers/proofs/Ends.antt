@@ -1,6 +1,8 @@
 -- How work that was asked for ended, from the row of its request.
 use Rattle.std.proofs.Common.{◌≡◌, ℕ, ◌-◌, true, false, List, [], ◌∷◌, Option, None, Some}
-use Rattle.std.proofs.Common.{inl, inr, refl, sym, ◌∙◌, ap, subst, ◌⊎◌}
+use Rattle.std.proofs.Common.{inl, inr, refl, sym, ◌∙◌, ap, subst, ◌⊎◌, Bool, slice_index, cond}
+use Rattle.std.specs.Prelude.{◌==◌}
+use Rattle.trips_requests.specs.Results.{aborted_word}
 use Rattle.trips_outside.specs.Outside.{Holds}
 use Rattle.trips_isa.specs.declared.block.Block.{Block}
 use Rattle.trips_isa.specs.declared.block.Image.{Image}
@@ -22,14 +24,15 @@ use Rattle.trips_answers.specs.Settings.{settings_of}
 use Rattle.trips_answers.specs.Read.{IsInputRead, HoldsInput}
 use Rattle.trips_answers.specs.Asks.{limit_of}
 use Rattle.trips_requests.specs.Table.{IsRead, AfterReading}
-use Rattle.trips_answers.specs.Report.{ending_of, status_of}
+use Rattle.trips_report.specs.Endings.{status_by}
+use Rattle.trips_answers.specs.Report.{ending_of}
 use Rattle.trips_draw_answers.specs.Drawn.{IsBlockDrawn}
 use Rattle.trips_grid_answers.specs.Runs.{IsRunFrom}
 use Rattle.trips_grid_answers.specs.Saved.{IsSavedRun}
 use Rattle.trips_answers.specs.Worked.{IsWorked, IsDone, IsDoneBehind}
 use Rattle.trips_answers.specs.Traced.{IsTraceFault, IsTraceRefused}
 use Rattle.trips_answers.specs.Fours.{IsFurtherFault, IsLargeAmong, IsRefusedAmong, further_of}
-use Rattle.trips_four_answers.specs.Report.{first_status, own_ending, status_or}
+use Rattle.trips_four_answers.specs.Report.{first_status, own_ending, own_run, status_or}
 use Rattle.trips_requests.specs.Texts.{IsFixed, read_fault_text, too_large_text}
 use Rattle.trips_answers.proofs.Traced.{part}
 use Rattle.trips_answers.specs.Answer.{IsAnswerBehind, IsAnswer}
@@ -135,31 +138,41 @@ some_asked None held rose s report a told = absurd (not_told s status.Usage a.0 
 some_asked (Some q) held rose s report a told = (q, refl)
 
 -- no end of a run is undefined
-end_is_defined : (x : Ending) → status_of x ≡ status.Undefined → ⊥
-end_is_defined ending.Ended e = cc
-end_is_defined ending.StackFull e = cc
-end_is_defined ending.Budget e = cc
-end_is_defined (ending.Trap block cause) e = cc
+ended_is_defined : (b : Bool) → cond b status.Aborted status.Ended ≡ status.Undefined → ⊥
+ended_is_defined true e = cc
+ended_is_defined false e = cc
+
+end_is_defined : (x : Ending) (w : ℕ) → status_by x w ≡ status.Undefined → ⊥
+end_is_defined ending.Ended w e = ended_is_defined (w == aborted_word) e
+end_is_defined ending.StackFull w e = cc
+end_is_defined ending.Budget w e = cc
+end_is_defined (ending.Trap block cause) w e = cc
 
 run_is_defined : (blocks : List Block) (t : State) (settings : Settings) (s : Status) (report : List ℕ)
-    → IsRunFrom blocks t settings.seed settings.most settings.show s report → s ≡ status.Undefined → ⊥
+    → IsRunFrom blocks t settings.conditions settings.most settings.show s report → s ≡ status.Undefined → ⊥
 run_is_defined blocks t settings s report run e =
     end_is_defined (ending_of (runs blocks t settings.most).1 (runs blocks t settings.most).0.next)
-    (sym run.2.0 ∙ e)
+    (slice_index (runs blocks t settings.most).0.registers 3) (sym run.2.0 ∙ e)
 
 -- nor is the end of four
-first_is_defined : (x : Ending) (later : Status) → (later ≡ status.Undefined → ⊥)
-    → status_or (status_of x) later ≡ status.Undefined → ⊥
-first_is_defined ending.Ended later n e = n e
-first_is_defined ending.StackFull later n e = cc
-first_is_defined ending.Budget later n e = cc
-first_is_defined (ending.Trap block cause) later n e = cc
+ended_first : (b : Bool) (later : Status) → (later ≡ status.Undefined → ⊥)
+    → status_or (cond b status.Aborted status.Ended) later ≡ status.Undefined → ⊥
+ended_first true later n e = cc
+ended_first false later n e = n e
+
+first_is_defined : (x : Ending) (w : ℕ) (later : Status) → (later ≡ status.Undefined → ⊥)
+    → status_or (status_by x w) later ≡ status.Undefined → ⊥
+first_is_defined ending.Ended w later n e = ended_first (w == aborted_word) later n e
+first_is_defined ending.StackFull w later n e = cc
+first_is_defined ending.Budget w later n e = cc
+first_is_defined (ending.Trap block cause) w later n e = cc
 
 four_are_defined : (input : List ℕ) (most : ℕ) (images : List Image)
     → first_status input most images ≡ status.Undefined → ⊥
 four_are_defined input most [] e = cc
 four_are_defined input most (image ∷ images) e =
-    first_is_defined (own_ending input most image) (first_status input most images)
+    first_is_defined (own_ending input most image) (slice_index (own_run input most image).0.registers 3)
+    (first_status input most images)
     (four_are_defined input most images) e
 
 -- nor is a save, or a run that is over
@@ -212,7 +225,7 @@ is_evaluation Disassemble how settings bytes input s report run e = absurd (not_
 is_evaluation Check how settings bytes input s report run e = absurd (not_made s run.1 e)
 is_evaluation (Explain file) how settings bytes input s report run e = absurd (not_made s run.1 e)
 is_evaluation Verify how settings bytes input s report run e = absurd (not_made s run.1.5.0 e)
-is_evaluation Record how settings bytes input s report run e = absurd (end_is_defined run.2.0 (sym run.2.2 ∙ e))
+is_evaluation Record how settings bytes input s report run e = absurd (end_is_defined run.2.0 run.2.1 (sym run.2.3 ∙ e))
 
 -- where what C leaves undefined is answered, an evaluation ended so
 pub undefined_row : (request : Option Request) (held : List ℕ → Option (List ℕ)) (rose : Type 0)

@@ -18,11 +18,10 @@ use Rattle.trips_answers.specs.Work.{Work}
 use Rattle.trips_answers.specs.Work.{Run, Evaluate, Compile}
 use Rattle.trips_answers.specs.Work.{Assemble, Disassemble, Check, Draw, Explain, Record, Verify, Save, Four}
 use Rattle.block_image.specs.Spelling.{spelling}
-use Rattle.target_asm_spec.specs.Text.{TargetText}
+use Rattle.target_file.specs.Files.{TargetFile}
 use Rattle.target_asm_spec.specs.Text as asm
-use Rattle.trips_tools.specs.Tools.{IsOneImage, IsGoodImage, good_report}
-use Rattle.target_asm_spec.proofs.Images as texts
-use Rattle.target_asm_laws.proofs.FaultExact as faults
+use Rattle.trips_tools.specs.Tools.{IsAssembled, IsGoodImage, IsOneImage, good_report}
+use Rattle.target_file.proofs.Laws as files
 use Rattle.trips_answers.specs.declared.forms.FileForm.{FileForm}
 use Rattle.trips_answers.specs.declared.forms.FileForm.TheVariants as form
 use Rattle.trips_answers.specs.declared.forms.Settings.{Settings}
@@ -67,12 +66,12 @@ image_not_refused bytes out image spelled good (inr bad) =
     good_is_not_bad image bad.1 bad.2 good
     (subst (λ (i : Image). IsFirstBad i bad.1 bad.2) same bad.4)
 
-pub target_not_refused : (text out : List ℕ) (image : Image) → TargetText image text
+pub target_not_refused : (text out : List ℕ) (image : Image) → TargetFile image text
     → All IsGood image.blocks → IsRefusedAs Run form.Target text out → ⊥
 target_not_refused text out image spelled good (inl bad) =
-    faults.not_both image text bad.0 spelled bad.1
+    files.not_both image text bad.0 spelled bad.1
 target_not_refused text out image spelled good (inr bad) =
-    let same : bad.0 ≡ image = texts.one_image bad.0 image text bad.3 spelled in
+    let same : bad.0 ≡ image = files.one_image bad.0 image text bad.3 spelled in
     good_is_not_bad image bad.1 bad.2 good
     (subst (λ (i : Image). IsFirstBad i bad.1 bad.2) same bad.4)
 
@@ -130,7 +129,7 @@ not_worked Draw how settings bytes input s report out bad run =
 not_worked Compile how settings bytes input s report out bad run =
     not_both bytes run.1.lowered.program bad.0 run.1.lowered.accepted bad.1
 not_worked Assemble how settings bytes input s report out bad run =
-    faults.not_both run.0.0 bytes bad.0 run.0.1 bad.1
+    files.not_both run.0.0 bytes bad.0 run.0.1 bad.1
 not_worked Disassemble how settings bytes input s report out bad run =
     decoded.not_both run.0.0 bytes bad.0 run.0.2 bad.1
 not_worked Check how settings bytes input s report out bad run =
@@ -154,7 +153,7 @@ refused_cannot Save how bytes out bad can = no_program_can how bytes out bad can
 refused_cannot Four how bytes out bad can = no_program_can how bytes bad.0 bad.1 can
 refused_cannot Draw how bytes out bad can = no_program_can how bytes out bad can
 refused_cannot Compile how bytes out bad can = not_both bytes can.0 bad.0 can.1 bad.1
-refused_cannot Assemble how bytes out bad can = faults.not_both can.1.0 bytes bad.0 can.1.1 bad.1
+refused_cannot Assemble how bytes out bad can = files.not_both can.1.0 bytes bad.0 can.1.1 bad.1
 refused_cannot Disassemble how bytes out bad can = decoded.not_both can.1.0 bytes bad.0 can.1.2 bad.1
 refused_cannot Check how bytes out bad can = image_not_refused bytes out can.1.0 can.1.1 can.1.2 bad
 refused_cannot (Explain file) how bytes out bad can = not_both_told file bytes can.0 out can.1 bad
@@ -186,11 +185,11 @@ image_once bytes a b (inr x) (inr y) = bad_once bytes a b x y
 
 -- the same of target texts
 no_text_once : (text a b : List ℕ) → IsNoText text a → IsNoText text b → a ≡ b
-no_text_once text a b x y = x.2 ∙ ap asm_text (faults.one text x.0 y.0 x.1 y.1) ∙ sym y.2
+no_text_once text a b x y = x.2 ∙ ap asm_text (files.one_fault text x.0 y.0 x.1 y.1) ∙ sym y.2
 
 bad_text_once : (text a b : List ℕ) → IsBadText text a → IsBadText text b → a ≡ b
 bad_text_once text a b x y =
-    let same : y.0 ≡ x.0 = texts.one_image y.0 x.0 text y.3 x.3 in
+    let same : y.0 ≡ x.0 = files.one_image y.0 x.0 text y.3 x.3 in
     let again = subst (λ (i : Image). IsFirstBad i y.1 y.2) same y.4 in
     let one = first_bad_once x.0 x.1 y.1 x.2 y.2 x.3.fits x.4 again in
     x.5 ∙ ap (λ (n : ℕ). check_text n x.2) one.0 ∙ ap (check_text y.1) one.1 ∙ sym y.5
@@ -198,8 +197,8 @@ bad_text_once text a b x y =
 target_once : (text a b : List ℕ) → IsNoText text a ⊎ IsBadText text a
     → IsNoText text b ⊎ IsBadText text b → a ≡ b
 target_once text a b (inl x) (inl y) = no_text_once text a b x y
-target_once text a b (inl x) (inr y) = absurd (faults.not_both y.0 text x.0 y.3 x.1)
-target_once text a b (inr x) (inl y) = absurd (faults.not_both x.0 text y.0 x.3 y.1)
+target_once text a b (inl x) (inr y) = absurd (files.not_both y.0 text x.0 y.3 x.1)
+target_once text a b (inr x) (inl y) = absurd (files.not_both x.0 text y.0 x.3 y.1)
 target_once text a b (inr x) (inr y) = bad_text_once text a b x y
 
 -- bytes that save nothing are refused with one report
@@ -316,13 +315,13 @@ text_exact settings text input s report program (inr run) is = run
 
 -- with the text of an image of good blocks under `run`
 pub target_exact : (settings : Settings) (text input : List ℕ) (s : Status) (report : List ℕ)
-    (image : Image) → IsDone Run form.Target settings text input s report → TargetText image text
+    (image : Image) → IsDone Run form.Target settings text input s report → TargetFile image text
     → All IsGood image.blocks → IsRunBy image.blocks image.bytes input settings s report
 target_exact settings text input s report image (inl x) spelled good =
     absurd (target_not_refused text x.0 image spelled good x.1)
 target_exact settings text input s report image (inr run) spelled good =
     subst (λ (i : Image). IsRunBy i.blocks i.bytes input settings s report)
-    (texts.one_image run.0 image text run.1 spelled) run.3
+    (files.one_image run.0 image text run.1 spelled) run.3
 
 -- with an accepted text under `compile`
 pub compiled_exact : (how : FileForm) (settings : Settings) (text input : List ℕ) (s : Status)
@@ -333,9 +332,9 @@ compiled_exact how settings text input s report program (inl x) is =
 compiled_exact how settings text input s report program (inr run) is = run
 
 -- a text is that of one spelling, and bytes are those of one text
-one_spelling : (text a b : List ℕ) → IsOneImage text a → IsOneImage text b → a ≡ b
+one_spelling : (text a b : List ℕ) → IsAssembled text a → IsAssembled text b → a ≡ b
 one_spelling text a b x y =
-    x.2.spelled ∙ ap spelling (texts.one_image x.0 y.0 text x.1 y.1) ∙ sym y.2.spelled
+    x.2.spelled ∙ ap spelling (files.one_image x.0 y.0 text x.1 y.1) ∙ sym y.2.spelled
 
 one_text : (bytes a b : List ℕ) → IsOneImage a bytes → IsOneImage b bytes → a ≡ b
 one_text bytes a b x y =
@@ -344,9 +343,9 @@ one_text bytes a b x y =
 -- with the text of an image under `asm`
 pub assembled_exact : (how : FileForm) (settings : Settings) (text input : List ℕ) (s : Status)
     (report bytes : List ℕ) → IsDone Assemble how settings text input s report
-    → IsOneImage text bytes → (s ≡ status.Ended) × (report ≡ bytes)
+    → IsAssembled text bytes → (s ≡ status.Ended) × (report ≡ bytes)
 assembled_exact how settings text input s report bytes (inl x) one =
-    absurd (faults.not_both one.0 text x.1.0 one.1 x.1.1)
+    absurd (files.not_both one.0 text x.1.0 one.1 x.1.1)
 assembled_exact how settings text input s report bytes (inr run) one =
     (run.1, one_spelling text report bytes run.0 one)
 

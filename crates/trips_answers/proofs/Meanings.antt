@@ -14,7 +14,7 @@ use Rattle.grid_cycle_spec.specs.Costs.{cost_of}
 use Rattle.grid_meaning.proofs.TextRuns.{settled}
 use Rattle.trips_answers.specs.Report.{ending_of, shown_behind, status_of}
 use Rattle.trips_answers.specs.inside.Laws.{TellsDeep, TellsDone}
-use Rattle.trips_answers.proofs.Compiled.{ended, full}
+use Rattle.trips_answers.proofs.Compiled.{ended, ended_so, full}
 
 -- an evaluation of the text's program is one of the program that the image means
 as_here : (text input : List ℕ) (turns : ℕ) (image : Image) (program : TypedProgram) (n : ℕ) (o : Outcome)
@@ -31,7 +31,7 @@ tells_done text input output turns image program value most n steps show s repor
     settled (run_of image input) (16 * n + 6) most (HasEnded output value)
     (does.finished input bytes n output value steps
     (as_here text input turns image program n (Done output value steps) does accepted e)) (omega (arith, enough)) in (
-      told.2.0 ∙ ap (λ (x : Stepped). status_of (ending_of x r.0.next)) h.answer,
+      told.2.0 ∙ ended_so r output value h,
       told.2.1 ∙ ap (λ (t : List ℕ). shown_behind t r.0 told.0 (cost_of image.blocks r.0.trace) show)
           (ended r output value h),
     )
@@ -44,7 +44,7 @@ tells_deep text input output turns image program most n show s report does accep
     settled (run_of image input) (16 * n + 6) most (IsFull output)
     (does.deep input bytes n output (as_here text input turns image program n (Stopped Deep output) does accepted e))
     (omega (arith, enough)) in (
-      told.2.0 ∙ ap (λ (x : Stepped). status_of (ending_of x r.0.next)) h.answer,
+      told.2.0 ∙ ap (λ (x : Stepped). status_of (ending_of x r.0.next) r.0) h.answer,
       told.2.1 ∙ ap (λ (t : List ℕ). shown_behind t r.0 told.0 (cost_of image.blocks r.0.trace) show)
           (full r output h),
     )

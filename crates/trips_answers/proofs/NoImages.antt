@@ -9,8 +9,7 @@ use Rattle.block_image.specs.declared.fault.ImageFault.{ImageFault}
 use Rattle.block_check.specs.Faults.{IsGood}
 use Rattle.block_check.specs.Images.{IsFirstBad}
 use Rattle.block_check.specs.declared.fault.CheckFault.{CheckFault}
-use Rattle.target_asm_spec.specs.Text.{TargetText}
-use Rattle.target_asm_spec.specs.FirstAsmFault.{FirstAsmFault}
+use Rattle.target_file.specs.Files.{FirstFileFault, TargetFile}
 use Rattle.target_asm_spec.specs.declared.fault.AsmFault.{AsmFault}
 use Rattle.trips_requests.specs.declared.answer.Answer.{Answer}
 use Rattle.trips_requests.specs.declared.status.Status.TheVariants as status
@@ -64,7 +63,7 @@ bytes_so {E = E} settings bytes fault r why first told is =
 
 -- that of a text of no image
 pub target_so : {E : Type 0} (settings : Settings) (text : List ℕ) (fault : AsmFault) (r : Result Answer E)
-    (why : NoImage) → FirstAsmFault text fault
+    (why : NoImage) → FirstFileFault text fault
     → IfOk r (λ a. IsFixed status.Refused (asm_text fault) a.status a.report.items) → IsRefusedSo r why
     → IsMade form.Target settings text (Err why)
 target_so {E = E} settings text fault r why first told is =
@@ -98,9 +97,9 @@ bytes_made settings bytes image (Err reason.Memory) spelled bad = tt
 
 -- so is that of a text
 pub target_made : (settings : Settings) (text : List ℕ) (image : Image) (r : Result Image NoImage)
-    → TargetText image text → IsChecked image r → IsMade form.Target settings text r
+    → TargetFile image text → IsChecked image r → IsMade form.Target settings text r
 target_made settings text image (Ok checked) spelled is = (
-  subst (λ (i : Image). TargetText i text) (sym is.0) spelled,
+  subst (λ (i : Image). TargetFile i text) (sym is.0) spelled,
   subst (λ (i : Image). All IsGood i.blocks) (sym is.0) is.1,
 )
 target_made settings text image (Err (reason.Refused report)) spelled bad =

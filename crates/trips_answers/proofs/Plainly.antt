@@ -16,6 +16,7 @@ use Rattle.c_compile.proofs.Meant.{does_text, good_blocks}
 use Rattle.grid_cycle_spec.specs.Costs.{cost_in, cost_of}
 use Rattle.grid_machine.specs.Answered.{ComesTo}
 use Rattle.grid_cycle.specs.Traps.{is_trap}
+use Rattle.grid_cycle.specs.declared.conditions.Conditions.{Conditions}
 use Rattle.trips_report.specs.declared.measured.Measured.{Measured}
 use Rattle.trips_report.specs.declared.show.Show.{Show}
 use Rattle.trips_answers.specs.Work.{Work}
@@ -77,16 +78,16 @@ within_cost blocks cost cycles ending.Budget within trapped =
 within_cost blocks cost cycles (ending.Trap block cause) within trapped = trapped block cause refl
 
 -- what the grid counts, as far as the machine tells it
-counts_run : (blocks : List Block) (t : State) (seed budget : ℕ) (show : Show) (ended : Ending) (measured : Measured)
-    → IsCountedFrom blocks t seed budget show ended measured
+counts_run : (blocks : List Block) (t : State) (conditions : Conditions) (budget : ℕ) (show : Show) (ended : Ending)
+    (measured : Measured) → IsCountedFrom blocks t conditions budget show ended measured
     → CountsRun blocks (runs blocks t budget).0.trace show ended measured
-counts_run blocks t seed budget show ended measured c =
+counts_run blocks t conditions budget show ended measured c =
     let came : ComesTo blocks t budget ended c.grid = c.ran.comes in
     record {
       committed = ap (λ (x : Counts). x.committed) c.counted ∙ c.ran.committed
           ∙ ap (λ (x : State). length x.trace) came.state;
       fetched = subst (λ (x : Counts). x.fetched ≡ x.committed + x.flushed) (sym c.counted) came.counted;
-      flushed = flushes_shown blocks t seed budget show ended measured c;
+      flushed = flushes_shown blocks t conditions budget show ended measured c;
       within = within_cost blocks (cost_of blocks (runs blocks t budget).0.trace) measured.counts.cycles
           ended c.within c.trapped;
       at_most = c.at_most;
@@ -94,16 +95,20 @@ counts_run blocks t seed budget show ended measured c =
 
 -- a run that was made is told
 tells_run : (blocks : List Block) (t : State) (settings : Settings) (s : Status) (report : List ℕ)
-    → IsRunFrom blocks t settings.seed settings.most settings.show s report
+    → IsRunFrom blocks t settings.conditions settings.most settings.show s report
     → TellsRunFrom blocks t settings.most settings.show s report
 tells_run blocks t settings s report run =
-    let r : State × Stepped = runs blocks t settings.most in
-    (run.0, counts_run blocks t settings.seed settings.most settings.show (ending_of r.1 r.0.next) run.0 run.1, run.2)
+    let r : State × Stepped = runs blocks t settings.most in (
+      run.0,
+      counts_run blocks t settings.conditions settings.most settings.show (ending_of r.1 r.0.next) run.0 run.1,
+      run.2,
+    )
 
 -- and one that was reported
 pub reported_tells : (blocks : List Block) (t : State) (settings : Settings) (s : Status) (old new : Option (List ℕ))
     → IsReportedFrom blocks t settings
-    (status_of (ending_of (runs blocks t settings.most).1 (runs blocks t settings.most).0.next))
+    (status_of (ending_of (runs blocks t settings.most).1 (runs blocks t settings.most).0.next)
+    (runs blocks t settings.most).0)
     (run_report (ending_of (runs blocks t settings.most).1 (runs blocks t settings.most).0.next)
     (runs blocks t settings.most).0) s old new
     → Wrote old new (TellsRunFrom blocks t settings.most settings.show s)
@@ -111,7 +116,7 @@ reported_tells blocks t settings s old new told =
     let r : State × Stepped = runs blocks t settings.most in
     let e : Ending = ending_of r.1 r.0.next in (
       shown_report e r.0 told.0 (cost_of blocks r.0.trace) settings.show,
-      (told.0, counts_run blocks t settings.seed settings.most settings.show e told.0 told.1, (told.2, refl)),
+      (told.0, counts_run blocks t settings.conditions settings.most settings.show e told.0 told.1, (told.2, refl)),
       told.3,
     )
 
@@ -241,8 +246,8 @@ result_tells held q s old new m =
       output = m.output;
       digits = m.digits;
       measured = m.reported.0;
-      counted = counts_run m.image.blocks (start m.image.bytes m.input) q.seed q.most q.show (ending_of r.1 r.0.next)
-          m.reported.0 m.reported.1;
+      counted = counts_run m.image.blocks (start m.image.bytes m.input) q.conditions q.most q.show
+          (ending_of r.1 r.0.next) m.reported.0 m.reported.1;
       reported = m.reported.3;
       means = m.means;
     }

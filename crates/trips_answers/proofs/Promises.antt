@@ -219,7 +219,7 @@ module _ (held : List ℕ → Option (List ℕ)) (rose : Type 0) (old new : Opti
 
   -- how the work ended
   pub ends : IsOneOf s
-      (status.Ended ∷ status.Budget ∷ status.StackFull ∷ status.Trap ∷ status.Undefined ∷ [])
+      (status.Ended ∷ status.Budget ∷ status.StackFull ∷ status.Trap ∷ status.Undefined ∷ status.Aborted ∷ [])
       → (x : Request) × (q ≡ Some x) × EndsWork held x s
   ends one =
       let told = causes.end_told held rose old new cut q s one in

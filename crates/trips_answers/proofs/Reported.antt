@@ -13,10 +13,10 @@ use Rattle.block_image.specs.Spelling.{ImageBytes}
 use Rattle.block_check.specs.Faults.{IsGood}
 use Rattle.grid_cycle_spec.specs.Costs.{cost_of}
 use Rattle.trips_report.specs.declared.show.Show.{Show}
-use Rattle.target_asm_spec.specs.Text.{TargetText}
+use Rattle.target_file.specs.Files.{TargetFile}
 use Rattle.trips_draw_answers.specs.Drawn.{IsBlockDrawn}
 use Rattle.trips_grid_answers.specs.Saved.{IsSavedRun}
-use Rattle.trips_tools.specs.Tools.{IsOneImage, IsGoodImage}
+use Rattle.trips_tools.specs.Tools.{IsAssembled, IsGoodImage, IsOneImage}
 use Rattle.trips_trace_answers.specs.TraceAnswers.{IsVerdict, TellsTrace}
 use Rattle.trips_answers.specs.Work.{Work}
 use Rattle.trips_answers.specs.Work.{Run, Evaluate, Compile}
@@ -25,6 +25,7 @@ use Rattle.trips_answers.specs.declared.forms.FileForm.{FileForm}
 use Rattle.trips_answers.specs.declared.forms.FileForm.TheVariants as form
 use Rattle.trips_requests.specs.declared.status.Status.{Status}
 use Rattle.trips_requests.specs.declared.status.Status.TheVariants as status
+use Rattle.trips_requests.specs.Results.{result_status}
 use Rattle.trips_answers.specs.Request.{Request}
 use Rattle.trips_answers.specs.Settings.{settings_with}
 use Rattle.trips_eval_answers.specs.Evaluation.{eval_report, eval_status, outcome_of}
@@ -72,7 +73,7 @@ module _ (held : List ℕ → Option (List ℕ)) (rose : Type 0) (old new : Opti
       (text input output : List ℕ) (value : ℤ) (steps : ℕ) (program : TypedProgram)
       → AsksFor q held Run form.Source most nothing_shown text input → IsAccepted text program
       → eval program input n ≡ Done output value steps → 16 * n + 16 ≤ most → (rose → ⊥) → (cut → ⊥)
-      → s ≢ status.Memory → (s ≡ status.Ended) × Appended old new (ended_report output value)
+      → s ≢ status.Memory → (s ≡ result_status value) × Appended old new (ended_report output value)
   headline s a most n text input output value steps program asks is done enough r c m =
       let row = row_of s a c m in
       let run = text_done s a c m most nothing_shown text input program asks is r in
@@ -101,7 +102,7 @@ module _ (held : List ℕ → Option (List ℕ)) (rose : Type 0) (old new : Opti
       → (rose → ⊥) → (cut → ⊥) → s ≢ status.Memory
       → (image : Image) × IsImageOf text asks.q.placing asks.q.unroll image
       × let run = runs image.blocks (start image.bytes input) most in
-      (s ≡ status_of (ending_of run.1 run.0.next))
+      (s ≡ status_of (ending_of run.1 run.0.next) run.0)
       × Appended old new (run_report (ending_of run.1 run.0.next) run.0)
   text_run s a most text input program asks is r c m =
       let row = row_of s a c m in
@@ -129,7 +130,7 @@ module _ (held : List ℕ → Option (List ℕ)) (rose : Type 0) (old new : Opti
       (bytes input : List ℕ) (image : Image) → AsksFor q held Run form.Image blocks nothing_shown bytes input
       → ImageBytes image bytes → All IsGood image.blocks → (rose → ⊥) → (cut → ⊥)
       → s ≢ status.Memory → let run = runs image.blocks (start image.bytes input) blocks in
-      (s ≡ status_of (ending_of run.1 run.0.next))
+      (s ≡ status_of (ending_of run.1 run.0.next) run.0)
       × Appended old new (run_report (ending_of run.1 run.0.next) run.0)
   image_run s a blocks bytes input image asks spelled good r c m =
       let row = row_of s a c m in
@@ -159,7 +160,7 @@ module _ (held : List ℕ → Option (List ℕ)) (rose : Type 0) (old new : Opti
   -- a target text that is assembled gives the bytes of its image
   pub assembled : (s : Status) → IsAnswered q held rose old new cut s → (how : FileForm) (most : ℕ)
       (show : Show) (text input bytes : List ℕ)
-      → AsksFor q held Assemble how most show text input → IsOneImage text bytes
+      → AsksFor q held Assemble how most show text input → IsAssembled text bytes
       → (rose → ⊥) → (cut → ⊥) → s ≢ status.Memory
       → (s ≡ status.Ended) × Appended old new bytes
   assembled s a how most show text input bytes asks one r c m =
@@ -251,7 +252,7 @@ module _ (held : List ℕ → Option (List ℕ)) (rose : Type 0) (old new : Opti
   -- and that of a target text's
   pub saved_target : (s : Status) → IsAnswered q held rose old new cut s → (most : ℕ) (show : Show)
       (text input : List ℕ) (image : Image) → AsksFor q held Save form.Target most show text input
-      → TargetText image text → All IsGood image.blocks → (rose → ⊥) → (cut → ⊥) → s ≢ status.Memory
+      → TargetFile image text → All IsGood image.blocks → (rose → ⊥) → (cut → ⊥) → s ≢ status.Memory
       → Wrote old new (IsSavedRun image input most s)
   saved_target s a most show text input image asks spelled good r c m =
       let row = row_of s a c m in
@@ -290,7 +291,7 @@ module _ (held : List ℕ → Option (List ℕ)) (rose : Type 0) (old new : Opti
   -- and one of a target text's
   pub drawn_target : (s : Status) → IsAnswered q held rose old new cut s → (most : ℕ) (show : Show)
       (text input : List ℕ) (image : Image) → AsksFor q held Draw form.Target most show text input
-      → TargetText image text → All IsGood image.blocks → (rose → ⊥) → (cut → ⊥) → s ≢ status.Memory
+      → TargetFile image text → All IsGood image.blocks → (rose → ⊥) → (cut → ⊥) → s ≢ status.Memory
       → Wrote old new (IsBlockDrawn image.blocks (most - 1) s)
   drawn_target s a most show text input image asks spelled good r c m =
       let row = row_of s a c m in

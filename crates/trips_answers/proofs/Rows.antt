@@ -2,7 +2,10 @@
 use Rattle.std.proofs.Common.{◌≡◌, ℕ, ◌-◌, ◌<◌, ◌≤◌, Bool, true, false, List, [], ◌∷◌, Option, None}
 use Rattle.std.proofs.Common.{Some}
 use Rattle.std.proofs.Common.{IfSome, IsSomeAnd, length, ◌⊎◌, inl, inr, refl, sym}
-use Rattle.std.proofs.Common.{◌∙◌, ap, subst, arith}
+use Rattle.std.proofs.Common.{◌∙◌, ap, subst, arith, slice_index, cond}
+use Rattle.std.specs.Prelude.{◌==◌}
+use Rattle.std.specs.Int.{w64, cast_unsigned}
+use Rattle.trips_requests.specs.Results.{aborted_word}
 use Rattle.trips_outside.specs.Outside.{Holds}
 use Rattle.trips_isa.specs.declared.block.Block.{Block}
 use Rattle.trips_isa.specs.declared.block.Image.{Image}
@@ -26,10 +29,11 @@ use Rattle.trips_answers.specs.Settings.{settings_of}
 use Rattle.trips_answers.specs.Read.{HoldsInput, IsInputRead, MayBeLarge, IsLarge}
 use Rattle.trips_answers.specs.Traced.{IsTraceFault, IsTraceRefused}
 use Rattle.trips_answers.specs.Fours.{IsFurtherFault, IsLargeAmong, IsRefusedAmong, further_of}
-use Rattle.trips_four_answers.specs.Report.{first_status, own_ending, status_or}
+use Rattle.trips_four_answers.specs.Report.{first_status, own_ending, own_run, status_or}
 use Rattle.trips_answers.specs.Asks.{limit_of, most_input_bytes}
 use Rattle.trips_requests.specs.Table.{IsRead, AfterReading}
-use Rattle.trips_answers.specs.Report.{ending_of, status_of}
+use Rattle.trips_report.specs.Endings.{status_by}
+use Rattle.trips_answers.specs.Report.{ending_of}
 use Rattle.c_compile.proofs.Images.{images_mean}
 use Rattle.c_compile.proofs.Meant.{does_text}
 use Rattle.trips_draw_answers.specs.Drawn.{IsBlockDrawn}
@@ -52,19 +56,27 @@ is_told status.StackFull = true
 is_told status.Budget = true
 is_told status.Trap = true
 is_told status.Undefined = true
+is_told status.Aborted = true
 is_told other = false
 
-tells : (e : Ending) → is_told (status_of e) ≡ true
+-- so does the status of a program that has ended
+end_tells : (b : Bool) → is_told (cond b status.Aborted status.Ended) ≡ true
 unfolding is_told
-tells ending.Ended = refl
-tells ending.StackFull = refl
-tells ending.Budget = refl
-tells (ending.Trap block cause) = refl
+end_tells true = refl
+end_tells false = refl
+
+tells : (e : Ending) (w : ℕ) → is_told (status_by e w) ≡ true
+unfolding is_told
+tells ending.Ended w = end_tells (w == aborted_word)
+tells ending.StackFull w = refl
+tells ending.Budget w = refl
+tells (ending.Trap block cause) w = refl
 
 run_tells : (blocks : List Block) (t : State) (settings : Settings) (s : Status) (report : List ℕ)
-    → IsRunFrom blocks t settings.seed settings.most settings.show s report → is_told s ≡ true
+    → IsRunFrom blocks t settings.conditions settings.most settings.show s report → is_told s ≡ true
 run_tells blocks t settings s report run =
     ap is_told run.2.0 ∙ tells (ending_of (runs blocks t settings.most).1 (runs blocks t settings.most).0.next)
+    (slice_index (runs blocks t settings.most).0.registers 3)
 
 -- an image that the file is read as lacks what is asked of it
 record LacksIn (work : Work) (how : FileForm) (settings : Settings) (bytes input : List ℕ) : Type 0 where
@@ -96,23 +108,31 @@ drawn_tells how settings bytes input image s report is (inr none) =
 eval_tells : (o : Outcome) → is_told (eval_status o) ≡ true
 unfolding is_told
 eval_tells outcome.More = refl
-eval_tells outcome.Undefined = refl
+eval_tells (outcome.Undefined output why) = refl
 eval_tells outcome.Deep = refl
-eval_tells (outcome.Done output result steps) = refl
+eval_tells (outcome.Done output result steps) = end_tells (cast_unsigned w64 result == aborted_word)
 
 -- the first end of some that is none of a result, or that of the last, tells how a run ended
-first_tells : (e : Ending) (later : Status) → is_told later ≡ true → is_told (status_or (status_of e) later) ≡ true
+end_first : (b : Bool) (later : Status) → is_told later ≡ true
+    → is_told (status_or (cond b status.Aborted status.Ended) later) ≡ true
 unfolding is_told
-first_tells ending.Ended later told = told
-first_tells ending.StackFull later told = refl
-first_tells ending.Budget later told = refl
-first_tells (ending.Trap block cause) later told = refl
+end_first true later told = refl
+end_first false later told = told
+
+first_tells : (e : Ending) (w : ℕ) (later : Status) → is_told later ≡ true
+    → is_told (status_or (status_by e w) later) ≡ true
+unfolding is_told
+first_tells ending.Ended w later told = end_first (w == aborted_word) later told
+first_tells ending.StackFull w later told = refl
+first_tells ending.Budget w later told = refl
+first_tells (ending.Trap block cause) w later told = refl
 
 four_tell : (input : List ℕ) (most : ℕ) (images : List Image) → is_told (first_status input most images) ≡ true
 unfolding is_told
 four_tell input most [] = refl
 four_tell input most (image ∷ images) =
-    first_tells (own_ending input most image) (first_status input most images) (four_tell input most images)
+    first_tells (own_ending input most image) (slice_index (own_run input most image).0.registers 3)
+    (first_status input most images) (four_tell input most images)
 
 -- work that is done tells how it ended, but where the image lacks what is asked of it
 work_tells : (work : Work) (how : FileForm) (settings : Settings) (bytes input : List ℕ)
@@ -148,7 +168,7 @@ work_tells Disassemble how settings bytes input s report run = inl (ap is_told r
 work_tells Check how settings bytes input s report run = inl (ap is_told run.1)
 work_tells (Explain file) how settings bytes input s report run = inl (ap is_told run.1)
 work_tells Verify how settings bytes input s report run = inl (ap is_told run.1.5.0)
-work_tells Record how settings bytes input s report run = inl (ap is_told run.2.2 ∙ tells run.2.0)
+work_tells Record how settings bytes input s report run = inl (ap is_told run.2.3 ∙ tells run.2.0 run.2.1)
 
 -- The kinds of an answer: usage, a fault of reading, a refusal, and the end of the work.
 pub data Kind (q : Option Request) (held : List ℕ

@@ -11,8 +11,8 @@ use Rattle.block_image.proofs.Prefix.{one_image}
 use Rattle.block_check.specs.Faults.{IsGood}
 use Rattle.trips_answers.specs.Work.{Run}
 use Rattle.trips_answers.specs.Work.{Save}
-use Rattle.target_asm_spec.specs.Text.{TargetText}
-use Rattle.target_asm_spec.proofs.Images as texts
+use Rattle.target_file.specs.Files.{TargetFile}
+use Rattle.target_file.proofs.Laws as files
 use Rattle.trips_answers.specs.declared.forms.FileForm.TheVariants as form
 use Rattle.trips_answers.specs.declared.forms.Settings.{Settings}
 use Rattle.trips_requests.specs.declared.status.Status.{Status}
@@ -26,14 +26,14 @@ use Rattle.trips_answers.proofs.Exact.{image_not_refused, target_not_refused}
 -- with the save file of an image and a state, which is gone on with
 pub resumed_exact : (settings : Settings) (bytes input : List ℕ) (s : Status) (report : List ℕ) (image : Image)
     (t : State) → IsDone Run form.Saved settings bytes input s report → SaveBytes image t bytes
-    → IsRunFrom image.blocks (record t { trace = [] }) settings.seed settings.most settings.show s report
+    → IsRunFrom image.blocks (record t { trace = [] }) settings.conditions settings.most settings.show s report
 resumed_exact settings bytes input s report image t (inl x) is =
     absurd (saves.not_both image t bytes x.1.0 is x.1.1)
 resumed_exact settings bytes input s report image t (inr run) is =
     let once : saves.SavedOnce run.0 image run.1 t = saves.saved_once run.0 image run.1 t bytes run.2 is in
-    subst (λ (i : Image). IsRunFrom i.blocks (record t { trace = [] }) settings.seed settings.most settings.show s
+    subst (λ (i : Image). IsRunFrom i.blocks (record t { trace = [] }) settings.conditions settings.most settings.show s
     report) once.image
-    (subst (λ (x : State). IsRunFrom run.0.blocks x settings.seed settings.most settings.show s report)
+    (subst (λ (x : State). IsRunFrom run.0.blocks x settings.conditions settings.most settings.show s report)
     (fresh run.1 run.3 ∙ once.state) run.4)
   where
     fresh : (x : State) → x.trace ≡ [] → x ≡ record x { trace = [] }
@@ -59,10 +59,10 @@ saved_image_exact settings bytes input s report image (inr run) spelled good =
 
 -- with the text of an image of good blocks under `save`
 pub saved_target_exact : (settings : Settings) (text input : List ℕ) (s : Status) (report : List ℕ)
-    (image : Image) → IsDone Save form.Target settings text input s report → TargetText image text
+    (image : Image) → IsDone Save form.Target settings text input s report → TargetFile image text
     → All IsGood image.blocks → IsSavedRun image input settings.most s report
 saved_target_exact settings text input s report image (inl x) spelled good =
     absurd (target_not_refused text x.0 image spelled good x.1)
 saved_target_exact settings text input s report image (inr run) spelled good =
     subst (λ (i : Image). IsSavedRun i input settings.most s report)
-    (texts.one_image run.0 image text run.1 spelled) run.3
+    (files.one_image run.0 image text run.1 spelled) run.3

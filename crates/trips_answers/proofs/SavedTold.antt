@@ -12,7 +12,7 @@ use Rattle.trips_answers.specs.declared.forms.FileForm.{FileForm}
 use Rattle.trips_answers.specs.declared.forms.FileForm.TheVariants as form
 use Rattle.trips_answers.specs.declared.forms.Settings.{Settings}
 use Rattle.trips_grid_answers.specs.Saved.{IsResumed, IsSavedRun}
-use Rattle.target_asm_spec.specs.Text.{TargetText}
+use Rattle.target_file.specs.Files.{TargetFile}
 use Rattle.trips_eval_answers.specs.Refusals.{front_refusal}
 use Rattle.trips_eval_answers.specs.inside.Evaluation.{IsRefusalBy}
 use Rattle.trips_answers.specs.Worked.{IsDone}
@@ -53,7 +53,7 @@ image_saved_told bytes input settings image (Ok a) spelled told =
     saved_image bytes input settings image a.status a.report.items spelled told
 
 saved_target : (text input : List ℕ) (settings : Settings) (image : Image) (s : Status) (report : List ℕ)
-    → TargetText image text → IsSaveOfChecked image settings input s report
+    → TargetFile image text → IsSaveOfChecked image settings input s report
     → IsDone Save form.Target settings text input s report
 saved_target text input settings image s report spelled (inl run) = inr (image, spelled, run.0, run.1)
 saved_target text input settings image s report spelled (inr bad) =
@@ -61,7 +61,7 @@ saved_target text input settings image s report spelled (inr bad) =
 
 -- the answer of `save` to the image of a target text
 pub target_saved_told : {E : Type 0} (text input : List ℕ) (settings : Settings) (image : Image)
-    (r : Result Answer E) → TargetText image text
+    (r : Result Answer E) → TargetFile image text
     → IfOk r (λ a. IsSaveOfChecked image settings input a.status a.report.items)
     → IfOk r (λ a. IsDone Save form.Target settings text input a.status a.report.items)
 target_saved_told text input settings image (Err e) spelled told = tt
@@ -69,7 +69,7 @@ target_saved_told text input settings image (Ok a) spelled told =
     saved_target text input settings image a.status a.report.items spelled told
 
 resumed_row : (bytes input : List ℕ) (settings : Settings) (s : Status) (report : List ℕ)
-    → IsResumed bytes settings.seed settings.most settings.show s report
+    → IsResumed bytes settings.conditions settings.most settings.show s report
     → IsDone Run form.Saved settings bytes input s report
 resumed_row bytes input settings s report (inl out) = inl out
 resumed_row bytes input settings s report (inr run) = inr run
@@ -77,7 +77,7 @@ resumed_row bytes input settings s report (inr run) = inr run
 -- the answer of a run that goes on from a saved state
 pub resumed_told : {E : Type 0} (how : FileForm) (bytes input : List ℕ) (settings : Settings) (r : Result Answer E)
     → how ≡ form.Saved
-    → IfOk r (λ a. IsResumed bytes settings.seed settings.most settings.show a.status a.report.items)
+    → IfOk r (λ a. IsResumed bytes settings.conditions settings.most settings.show a.status a.report.items)
     → IfOk r (λ a. IsDone Run how settings bytes input a.status a.report.items)
 resumed_told how bytes input settings (Err e) is told = tt
 resumed_told how bytes input settings (Ok a) is told =

@@ -14,13 +14,14 @@ use Rattle.c_compile.specs.Images.{IsImageOf}
 use Rattle.grid_meaning.specs.Meant.{EndsAsMeant}
 use Rattle.block_image.specs.Spelling.{ImageBytes}
 use Rattle.block_check.specs.Faults.{IsGood}
-use Rattle.target_asm_spec.specs.Text.{TargetText}
+use Rattle.target_file.specs.Files.{TargetFile}
 use Rattle.trips_report.specs.declared.show.Show.{Show}
 use Rattle.trips_answers.specs.Work.{Run}
 use Rattle.trips_answers.specs.declared.forms.FileForm.TheVariants as form
 use Rattle.trips_answers.specs.declared.forms.Settings.{Settings}
 use Rattle.trips_requests.specs.declared.status.Status.{Status}
 use Rattle.trips_requests.specs.declared.status.Status.TheVariants as status
+use Rattle.trips_requests.specs.Results.{result_status}
 use Rattle.trips_answers.specs.Request.{Request}
 use Rattle.trips_answers.specs.Settings.{settings_with}
 use Rattle.trips_answers.specs.Report.{ending_of, run_report, status_of, full_report}
@@ -37,9 +38,9 @@ use Rattle.trips_answers.proofs.Causes.{whole_of}
 
 -- a run that was made, and what was written of it
 ran : (blocks : List Block) (t : State) (settings : Settings) (s : Status) (report : List ℕ)
-    (old new : Option (List ℕ)) → IsRunFrom blocks t settings.seed settings.most settings.show s report
+    (old new : Option (List ℕ)) → IsRunFrom blocks t settings.conditions settings.most settings.show s report
     → Appended old new report → let run = runs blocks t settings.most in
-    IsReportedFrom blocks t settings (status_of (ending_of run.1 run.0.next))
+    IsReportedFrom blocks t settings (status_of (ending_of run.1 run.0.next) run.0)
     (run_report (ending_of run.1 run.0.next) run.0) s old new
 ran blocks t settings s report old new run w =
     (run.0, run.1, run.2.0, subst (Appended old new) run.2.1 w)
@@ -63,7 +64,7 @@ module _ (held : List ℕ → Option (List ℕ)) (rose : Type 0) (old new : Opti
       → IsAccepted bytes program → (rose → ⊥) → (cut → ⊥) → s ≢ status.Memory
       → (image : Image) × IsImageOf bytes asks.q.placing asks.q.unroll image
       × let run = runs image.blocks (start image.bytes input) most in
-      IsReported image input (settings_with asks.q most show) (status_of (ending_of run.1 run.0.next))
+      IsReported image input (settings_with asks.q most show) (status_of (ending_of run.1 run.0.next) run.0)
       (run_report (ending_of run.1 run.0.next) run.0) s old new
   text_run program asks is r c m =
       let row = whole_of held rose old new cut q s a c m in
@@ -78,7 +79,7 @@ module _ (held : List ℕ → Option (List ℕ)) (rose : Type 0) (old new : Opti
       → (asks : AsksFor q held Run form.Image most show bytes input)
       → ImageBytes image bytes → All IsGood image.blocks → (rose → ⊥) → (cut → ⊥) → s ≢ status.Memory
       → let run = runs image.blocks (start image.bytes input) most in
-      IsReported image input (settings_with asks.q most show) (status_of (ending_of run.1 run.0.next))
+      IsReported image input (settings_with asks.q most show) (status_of (ending_of run.1 run.0.next) run.0)
       (run_report (ending_of run.1 run.0.next) run.0) s old new
   image_run image asks spelled good r c m =
       let row = whole_of held rose old new cut q s a c m in
@@ -89,9 +90,9 @@ module _ (held : List ℕ → Option (List ℕ)) (rose : Type 0) (old new : Opti
   -- a run of a target text reports the machine's run of its image, and behind it what is to be shown
   pub target_run : (image : Image)
       → (asks : AsksFor q held Run form.Target most show bytes input)
-      → TargetText image bytes → All IsGood image.blocks → (rose → ⊥) → (cut → ⊥) → s ≢ status.Memory
+      → TargetFile image bytes → All IsGood image.blocks → (rose → ⊥) → (cut → ⊥) → s ≢ status.Memory
       → let run = runs image.blocks (start image.bytes input) most in
-      IsReported image input (settings_with asks.q most show) (status_of (ending_of run.1 run.0.next))
+      IsReported image input (settings_with asks.q most show) (status_of (ending_of run.1 run.0.next) run.0)
       (run_report (ending_of run.1 run.0.next) run.0) s old new
   target_run image asks spelled good r c m =
       let row = whole_of held rose old new cut q s a c m in
@@ -106,7 +107,7 @@ module _ (held : List ℕ → Option (List ℕ)) (rose : Type 0) (old new : Opti
       → SaveBytes image t bytes → (rose → ⊥) → (cut → ⊥) → s ≢ status.Memory
       → let run = runs image.blocks (record t { trace = [] }) most in
       IsReportedFrom image.blocks (record t { trace = [] }) (settings_with asks.q most show)
-      (status_of (ending_of run.1 run.0.next)) (run_report (ending_of run.1 run.0.next) run.0) s old new
+      (status_of (ending_of run.1 run.0.next) run.0) (run_report (ending_of run.1 run.0.next) run.0) s old new
   resumed image t asks saves r c m =
       let row = whole_of held rose old new cut q s a c m in
       let done = complete q held rose s row.0 row.1 r Run form.Saved most show bytes input asks in
@@ -121,8 +122,8 @@ module _ (held : List ℕ → Option (List ℕ)) (rose : Type 0) (old new : Opti
       → (rose → ⊥) → (cut → ⊥) → s ≢ status.Memory
       → (image : Image) × IsImageOf bytes asks.q.placing asks.q.unroll image
       × ((runs image.blocks (start image.bytes input) most).1 ≡ stepped.Ended)
-      × (told : IsReported image input (settings_with asks.q most show) status.Ended (ended_report output value) s old
-      new) × EndsAsMeant image input most [] output value ending.Ended told.1.grid
+      × (told : IsReported image input (settings_with asks.q most show) (result_status value)
+      (ended_report output value) s old new) × EndsAsMeant image input most [] output value ending.Ended told.1.grid
   headline n output value steps program asks is done enough r c m =
       let row = whole_of held rose old new cut q s a c m in
       let run = text_done c m program asks is r in

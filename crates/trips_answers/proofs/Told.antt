@@ -40,7 +40,7 @@ use Rattle.trips_answers.specs.Asks.{limit_of, most_input_bytes}
 use Rattle.trips_requests.specs.Table.{IsRead, AfterReading}
 use Rattle.trips_requests.specs.Limits.{most_target_bytes, most_image_bytes, most_save_bytes}
 use Rattle.c_tree.specs.Limits.{most_source_bytes}
-use Rattle.target_asm_spec.specs.Text.{TargetText}
+use Rattle.target_file.specs.Files.{TargetFile}
 use Rattle.trips_eval_answers.specs.Refusals.{front_refusal}
 use Rattle.trips_eval_answers.specs.Evaluation.{IsRefusedByFront}
 use Rattle.trips_eval_answers.specs.inside.Evaluation.{IsRefusalBy, IsTextEvaluated}
@@ -136,7 +136,7 @@ image_told bytes input settings image (Ok a) spelled told =
     checked_done bytes input settings image a.status a.report.items spelled told
 
 checked_target : (text input : List ℕ) (settings : Settings) (image : Image) (s : Status)
-    (report : List ℕ) → TargetText image text → IsRunOfChecked image settings input s report
+    (report : List ℕ) → TargetFile image text → IsRunOfChecked image settings input s report
     → IsDone Run form.Target settings text input s report
 checked_target text input settings image s report spelled (inl run) =
     inr (image, spelled, run.0, run.1)
@@ -145,7 +145,7 @@ checked_target text input settings image s report spelled (inr bad) =
 
 -- the answer to the image of a target text
 pub target_told : {E : Type 0} (text input : List ℕ) (settings : Settings) (image : Image)
-    (r : Result Answer E) → TargetText image text
+    (r : Result Answer E) → TargetFile image text
     → IfOk r (λ a. IsRunOfChecked image settings input a.status a.report.items)
     → IfOk r (λ a. IsDone Run form.Target settings text input a.status a.report.items)
 target_told text input settings image (Err e) spelled told = tt

@@ -1,6 +1,5 @@
 -- What words ask for: a work, with the bytes of a file and of an input within their limits; and that it is served.
-use Rattle.std.specs.Prelude.{◌≡◌, ◌≢◌, ℕ, ◌≤◌, List, [], Option, None, Some, length, false, ◌++◌, codes, ℤ}
-use Rattle.std.specs.Fmt.{signed_decimal}
+use Rattle.std.specs.Prelude.{◌≡◌, ◌≢◌, ℕ, ◌≤◌, List, [], Option, None, Some, length, false, ℤ}
 use Rattle.trips_answers.specs.declared.forms.FileForm.{FileForm}
 use Rattle.trips_answers.specs.declared.forms.FileForm.TheVariants.{Source, Target, Image, Saved}
 use Rattle.trips_answers.specs.Request.{Request, origin_held}
@@ -8,6 +7,7 @@ use Rattle.c_tree.specs.Limits.{most_source_bytes}
 use Rattle.trips_requests.specs.Limits.{most_image_bytes, most_save_bytes, most_target_bytes}
 use Rattle.trips_report.specs.declared.show.Show.{Show}
 use Rattle.trips_answers.specs.Work.{Work}
+use Rattle.trips_requests.specs.Results.{result_line}
 use Rattle.trips_requests.specs.Texts.{output_and}
 use Rattle.trips_requests.specs.declared.status.Status.{Status}
 use Rattle.trips_requests.specs.declared.status.Status.TheVariants.{Memory}
@@ -40,9 +40,9 @@ pub record IsTold (q : Request) (held : List ℕ → Option (List ℕ)) (bytes i
 abbrev pub nothing_shown : Show
 nothing_shown = record { regs = false; trace = false; cycles = false; stats = false; events = None }
 
--- the report of a run that ended with an output and a result
+-- the report of a run that ended with an output and a result, which may say that the program has aborted
 abbrev pub ended_report : List ℕ → ℤ → List ℕ
-ended_report output result = output_and output (codes "result " ++ signed_decimal result)
+ended_report output result = output_and output (result_line result)
 
 -- The request asks for this work on a file that is read so, within so many blocks or steps: the
 -- file and the input are told, are these, and are within their limits. This is what a run shows.

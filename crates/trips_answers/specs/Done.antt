@@ -8,8 +8,8 @@ use Rattle.c_meaning_spec.specs.Laws.{IsInput}
 use Rattle.c_compile.specs.Meant.{DoesText}
 use Rattle.block_image.specs.Spelling.{ImageBytes}
 use Rattle.block_check.specs.Faults.{IsGood}
-use Rattle.target_asm_spec.specs.Text.{TargetText}
-use Rattle.trips_tools.specs.Tools.{IsOneImage, IsGoodImage}
+use Rattle.target_file.specs.Files.{TargetFile}
+use Rattle.trips_tools.specs.Tools.{IsAssembled, IsGoodImage, IsOneImage}
 use Rattle.trips_trace_answers.specs.TraceAnswers.{IsRecording}
 use Rattle.trips_report.specs.declared.show.Show.{Show}
 use Rattle.trips_answers.specs.Work.{Work}
@@ -37,7 +37,7 @@ IsProgram text = (program : TypedProgram) × IsAccepted text program
 -- the bytes of a file are those of this image, or its target text, and each of its blocks is good
 abbrev pub IsImageIn : FileForm → List ℕ → Image → Type 0
 IsImageIn form.Source text image = ⊥
-IsImageIn form.Target text image = TargetText image text × All IsGood image.blocks
+IsImageIn form.Target text image = TargetFile image text × All IsGood image.blocks
 IsImageIn form.Image bytes image = ImageBytes image bytes × All IsGood image.blocks
 IsImageIn form.Saved bytes image = ⊥
 
@@ -59,7 +59,7 @@ AreImagesFor unroll files images = ⊥
 -- `check` the report on an image of good blocks. Each is made of the bytes alone. What `explain` tells of an accepted
 -- file begins with its name.
 abbrev pub Makes : Work → List ℕ → List ℕ → Type 0
-Makes Assemble text made = IsOneImage text made
+Makes Assemble text made = IsAssembled text made
 Makes Disassemble bytes made = IsOneImage made bytes
 Makes Check bytes made = IsGoodImage bytes made
 Makes (Explain file) text made = IsAcceptedTold file text made

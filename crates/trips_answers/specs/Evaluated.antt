@@ -26,6 +26,7 @@ use Rattle.trips_answers.specs.Report.{CountsRun, ending_of, shown_behind}
 abbrev pub SaysOf : Status → Outcome → Type 0
 SaysOf s (Stopped Undefined output) = Unit {0}
 SaysOf status.Ended (Done output result steps) = Unit {0}
+SaysOf status.Aborted (Done output result steps) = Unit {0}
 SaysOf status.StackFull (Stopped Deep output) = Unit {0}
 SaysOf status.Budget outcome = Unit {0}
 SaysOf s outcome = ⊥

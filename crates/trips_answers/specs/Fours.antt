@@ -6,7 +6,7 @@ use Rattle.block_image.specs.Spelling.{ImageBytes}
 use Rattle.block_check.specs.Faults.{IsGood}
 use Rattle.block_check.specs.Images.{IsFirstBad}
 use Rattle.block_check.specs.declared.fault.CheckFault.{CheckFault}
-use Rattle.target_asm_spec.specs.Text.{TargetText}
+use Rattle.target_file.specs.Files.{TargetFile}
 use Rattle.trips_outside.specs.Outside.{Holds}
 use Rattle.trips_requests.specs.declared.loading.Loaded.{Loaded}
 use Rattle.trips_requests.specs.declared.status.Status.{Status}
@@ -35,7 +35,7 @@ Program = FileForm × List ℕ
 -- the image that is made of a file's bytes, by these settings
 abbrev pub IsImageBy : FileForm → Settings → List ℕ → Image → Type 0
 IsImageBy form.Source settings text image = IsImageOf text settings.placing settings.unroll image
-IsImageBy form.Target settings text image = TargetText image text × All IsGood image.blocks
+IsImageBy form.Target settings text image = TargetFile image text × All IsGood image.blocks
 IsImageBy form.Image settings bytes image = ImageBytes image bytes × All IsGood image.blocks
 IsImageBy form.Saved settings bytes image = ⊥
 
@@ -49,7 +49,7 @@ AreImagesBy settings ps images = ⊥
 -- the text is that of an image, and the report names its first block that is not good
 abbrev pub IsBadText : List ℕ → List ℕ → Type 0
 IsBadText text report = (image : Image) × (number : ℕ) × (fault : CheckFault)
-    × TargetText image text × IsFirstBad image number fault
+    × TargetFile image text × IsFirstBad image number fault
     × (report ≡ check_text number fault)
 
 -- no image is made of a file's bytes, and the report says why, as that of `run` does

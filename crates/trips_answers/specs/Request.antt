@@ -5,9 +5,18 @@ use Rattle.std.specs.List.{ends_with}
 use Rattle.bench_text.specs.Text.{bench_text}
 use Rattle.grid_place.specs.declared.placed.Placing.{Placing}
 use Rattle.grid_place.specs.declared.placed.Placing.TheVariants.{Greedy, Seeded}
+use Rattle.grid_cycle.specs.declared.conditions.Conditions.{Conditions}
+use Rattle.grid_cycle.specs.declared.conditions.Exits.{Exits}
+use Rattle.grid_cycle.specs.declared.conditions.Exits.TheVariants as exits
+use Rattle.grid_cycle.specs.declared.conditions.Holds.{Holds}
+use Rattle.grid_cycle.specs.declared.conditions.Holds.TheVariants as holds
 use Rattle.trips_report.specs.declared.show.Show.{Show}
 use Rattle.trips_requests.specs.declared.commands.Command.{Command}
 use Rattle.trips_requests.specs.declared.commands.Command.TheVariants as command
+use Rattle.trips_requests.specs.declared.commands.PredictorStart.{PredictorStart}
+use Rattle.trips_requests.specs.declared.commands.PredictorStart.TheVariants as start
+use Rattle.trips_requests.specs.declared.commands.WeatherKind.{WeatherKind}
+use Rattle.trips_requests.specs.declared.commands.WeatherKind.TheVariants as kind
 use Rattle.trips_requests.specs.Requests as line
 use Rattle.trips_answers.specs.Work.{Work, work_on}
 use Rattle.trips_answers.specs.declared.forms.FileForm.{FileForm}
@@ -34,10 +43,21 @@ abbrev pub placing_of : Option ℕ → Placing
 placing_of None = Greedy
 placing_of (Some number) = Seeded number
 
+-- what the predictor's table holds as a run begins, by the word that is said
+abbrev pub exits_of : PredictorStart → Exits
+exits_of start.Seeded = exits.Seeded
+exits_of start.Zero = exits.Zero
+
+-- for how long parcels are held, by the word that is said
+abbrev pub holds_of : WeatherKind → Holds
+holds_of kind.Seeded = holds.Seeded
+holds_of kind.Calm = holds.Calm
+holds_of kind.Worst = holds.Worst
+
 -- A request: what is done, with the bytes of what, read as what, with the input of which name, if it has one, how
--- compiled blocks are placed and how many turns of a loop each does at most, the seed of the grid, how many blocks or
--- steps it may take (of `draw` the blocks up to that which is drawn), and what the report of a run shows behind its
--- ending.
+-- compiled blocks are placed and how many turns of a loop each does at most, the seed of the grid, and with it what the
+-- predictor and the weather of a run are, how many blocks or steps it may take (of `draw` the blocks up to that which
+-- is drawn), and what the report of a run shows behind its ending.
 pub record Request : Type 0 where
   pub work : Work
   pub origin : Origin
@@ -51,6 +71,8 @@ pub record Request : Type 0 where
   pub placing : Placing
   pub unroll : ℕ
   pub seed : ℕ
+  -- of `run` and `resume`, what the grid begins with
+  pub conditions : Conditions
   pub most : ℕ
   pub show : Show
 
@@ -88,6 +110,7 @@ planned r = record {
   placing = placing_of r.place;
   unroll = r.unroll;
   seed = r.seed;
+  conditions = record { seed = r.seed; exits = exits_of r.predictor; holds = holds_of r.weather; frames = r.frames };
   most = r.most;
   show = record { regs = r.regs; trace = r.trace; cycles = r.cycles; stats = r.stats; events = r.events };
 }

@@ -6,7 +6,14 @@ use Rattle.trips_answers.specs.Request.{Request}
 
 -- how a request's work is done within so many blocks or steps, where this is shown
 abbrev pub settings_with : Request → ℕ → Show → Settings
-settings_with q most show = record { placing = q.placing; unroll = q.unroll; seed = q.seed; most = most; show = show }
+settings_with q most show = record {
+  placing = q.placing;
+  unroll = q.unroll;
+  seed = q.seed;
+  conditions = q.conditions;
+  most = most;
+  show = show;
+}
 
 -- how the work of a request is done
 abbrev pub settings_of : Request → Settings

@@ -30,7 +30,7 @@ abbrev pub IsReportedFrom : List Block → State → Settings → Status → Lis
     → Option (List ℕ) → Type 0
 IsReportedFrom blocks t settings wanted text s old new =
     let run = runs blocks t settings.most in
-    (measured : Measured) × IsCountedFrom blocks t settings.seed settings.most settings.show
+    (measured : Measured) × IsCountedFrom blocks t settings.conditions settings.most settings.show
     (ending_of run.1 run.0.next) measured × (s ≡ wanted)
     × Appended old new (shown_behind text run.0 measured (cost_of blocks run.0.trace) settings.show)
 

@@ -8,8 +8,8 @@ use Rattle.c_meaning_spec.specs.Laws.{IsInput}
 use Rattle.grid_place.specs.declared.placed.Placing.{Placing}
 use Rattle.block_image.specs.Spelling.{ImageBytes}
 use Rattle.block_check.specs.Faults.{IsGood}
-use Rattle.target_asm_spec.specs.Text.{TargetText}
-use Rattle.trips_tools.specs.Tools.{IsOneImage, IsGoodImage}
+use Rattle.target_file.specs.Files.{TargetFile}
+use Rattle.trips_tools.specs.Tools.{IsAssembled, IsGoodImage, IsOneImage}
 use Rattle.trips_trace_answers.specs.TraceAnswers.{IsRecording, IsRefusedImage, IsVerified}
 use Rattle.trips_answers.specs.Work.{Work}
 use Rattle.trips_answers.specs.Work.{Run, Evaluate, Compile}
@@ -36,7 +36,7 @@ use Rattle.trips_four_answers.specs.Runs.{IsFourRun}
 -- counted of it.
 abbrev pub IsRunBy : List Block → List ℕ → List ℕ → Settings → Status → List ℕ → Type 0
 IsRunBy blocks bytes input settings s report =
-    IsRunFrom blocks (start bytes input) settings.seed settings.most settings.show s report
+    IsRunFrom blocks (start bytes input) settings.conditions settings.most settings.show s report
 
 -- What is done with the bytes of a file -------------------------------------------------------
 
@@ -52,7 +52,7 @@ IsRunOfImage settings bytes input s report = (image : Image) × ImageBytes image
 
 -- the image of the target text is run, all of whose blocks are good
 abbrev pub IsRunOfTarget : Settings → List ℕ → List ℕ → Status → List ℕ → Type 0
-IsRunOfTarget settings text input s report = (image : Image) × TargetText image text
+IsRunOfTarget settings text input s report = (image : Image) × TargetFile image text
     × All IsGood image.blocks × IsRunBy image.blocks image.bytes input settings s report
 
 -- the run of the image that is compiled from the text is saved, or it is over
@@ -67,7 +67,7 @@ IsSaveOfImage settings bytes input s report = (image : Image) × ImageBytes imag
 
 -- so is the run of the image of the target text, all of whose blocks are good
 abbrev pub IsSaveOfTarget : Settings → List ℕ → List ℕ → Status → List ℕ → Type 0
-IsSaveOfTarget settings text input s report = (image : Image) × TargetText image text
+IsSaveOfTarget settings text input s report = (image : Image) × TargetFile image text
     × All IsGood image.blocks × IsSavedRun image input settings.most s report
 
 -- the image that is compiled from the text is written
@@ -83,7 +83,7 @@ IsWorked Run form.Source settings text input s report = IsRunOfText settings tex
 IsWorked Run form.Target settings text input s report = IsRunOfTarget settings text input s report
 IsWorked Run form.Image settings bytes input s report = IsRunOfImage settings bytes input s report
 IsWorked Run form.Saved settings bytes input s report =
-    IsResumedRun bytes settings.seed settings.most settings.show s report
+    IsResumedRun bytes settings.conditions settings.most settings.show s report
 IsWorked Save form.Source settings text input s report = IsSaveOfText settings text input s report
 IsWorked Save form.Target settings text input s report = IsSaveOfTarget settings text input s report
 IsWorked Save form.Image settings bytes input s report = IsSaveOfImage settings bytes input s report
@@ -94,7 +94,7 @@ IsWorked Four how settings bytes input s report = (others : List Program) × (im
 IsWorked Draw how settings bytes input s report = (image : Image) × IsImageBy how settings bytes image
     × IsBlockDrawn image.blocks (settings.most - 1) s report
 IsWorked Compile how settings text input s report = IsCompiled settings.placing settings.unroll text s report
-IsWorked Assemble how settings text input s report = IsOneImage text report × (s ≡ status.Ended)
+IsWorked Assemble how settings text input s report = IsAssembled text report × (s ≡ status.Ended)
 IsWorked Disassemble how settings bytes input s report = IsOneImage report bytes × (s ≡ status.Ended)
 IsWorked Check how settings bytes input s report = IsGoodImage bytes report × (s ≡ status.Ended)
 IsWorked (Explain file) how settings text input s report = IsAcceptedTold file text report × (s ≡ status.Ended)

@@ -65,7 +65,13 @@ fn run_done(
         FileForm::Source => text_answer(alloc, bytes, input, settings),
         FileForm::Target => target_answer(alloc, bytes, input, settings),
         FileForm::Image => bytes_answer(alloc, bytes, input, settings),
-        FileForm::Saved => resumed(alloc, bytes, settings.seed, settings.most, settings.show),
+        FileForm::Saved => resumed(
+            alloc,
+            bytes,
+            settings.conditions,
+            settings.most,
+            settings.show,
+        ),
     }
 }
 

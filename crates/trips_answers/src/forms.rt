@@ -1,13 +1,14 @@
 //! What a request reads its file as, and how its work is done.
 
 ghost use Rattle.std.specs.Prelude.{◌≡◌};
-ghost use Rattle.trips_answers.specs.Request.{form_named, form_of, placing_of};
+ghost use Rattle.trips_answers.specs.Request.{exits_of, form_named, form_of, holds_of, placing_of};
 ghost use Rattle.trips_answers.specs.Settings.{settings_of};
 ghost use Rattle.trips_answers.specs.inside.Settings.{request_seen};
 
+use grid_cycle::{Conditions, Exits, Holds};
 use grid_place::Placing;
 use trips_report::Show;
-use trips_requests::{Asked, Command};
+use trips_requests::{Asked, Command, PredictorStart, WeatherKind};
 
 /// What a file is read as.
 #[derive(Clone, Copy, Debug, PartialEq, Eq)]
@@ -28,6 +29,8 @@ pub struct Settings {
     pub unroll: u8,
     /// the seed of the grid's predictor and of its network's delays
     pub seed: u64,
+    /// of a run, what the grid begins with
+    pub conditions: Conditions,
     /// how many blocks or steps it may take; of `draw` the blocks up to that which is drawn
     pub most: u32,
     /// what the report of a run shows behind its ending
@@ -79,6 +82,27 @@ fn placing_of(place: Option<u64>) -> Placing
     }
 }
 
+// What the predictor's table holds as a run begins.
+fn exits_of(predictor: PredictorStart) -> Exits
+    ensures { result ≡ exits_of predictor }
+{
+    match predictor {
+        PredictorStart::Seeded => Exits::Seeded,
+        PredictorStart::Zero => Exits::Zero,
+    }
+}
+
+// For how long parcels are held.
+fn holds_of(weather: WeatherKind) -> Holds
+    ensures { result ≡ holds_of weather }
+{
+    match weather {
+        WeatherKind::Seeded => Holds::Seeded,
+        WeatherKind::Calm => Holds::Calm,
+        WeatherKind::Worst => Holds::Worst,
+    }
+}
+
 /// How the work of a request is done.
 pub fn settings_for(asked: Asked<'_>) -> Settings
     ensures { result ≡ settings_of (request_seen asked.entry) }
@@ -87,6 +111,12 @@ pub fn settings_for(asked: Asked<'_>) -> Settings
         placing: placing_of(asked.place),
         unroll: asked.unroll,
         seed: asked.seed,
+        conditions: Conditions {
+            seed: asked.seed,
+            exits: exits_of(asked.predictor),
+            holds: holds_of(asked.weather),
+            frames: asked.frames,
+        },
         most: asked.most,
         show: Show {
             regs: asked.regs,

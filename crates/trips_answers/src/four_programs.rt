@@ -16,7 +16,8 @@ use block_check::{CheckedImage, ImageRefusal};
 use block_image::{ImageFault, decode};
 use c_compile::compile_unrolled;
 use std::alloc::{AllocError, Global};
-use target_asm::{AsmFault, assemble};
+use target_asm::AsmFault;
+use target_file::assemble_file;
 use trips_eval_answers::stage_refused;
 use trips_four_answers::{four_answer, program_line};
 use trips_isa::Image;
@@ -89,7 +90,7 @@ fn bytes_image(alloc: Global, bytes: &[u8], settings: Settings) -> Result<Checke
 fn target_image(alloc: Global, text: &[u8], settings: Settings) -> Result<CheckedImage, NoImage>
     ensures { IsMade form.Target settings text.now result }
 {
-    match assemble(alloc, text) {
+    match assemble_file(alloc, text) {
         Ok(image) => checked_image(alloc, image),
         Err(AsmFault::Memory) => Err(NoImage::Memory),
         Err(fault) => Err(refusal_of(refused(alloc, Said::Asm(fault)))),

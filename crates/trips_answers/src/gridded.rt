@@ -9,8 +9,8 @@ use block_check::CheckedImage;
 use std::alloc::{AllocError, Global};
 use trips_requests::Answer;
 
-/// Runs an image on an input, on the grid of the settings' seed and for as many blocks as they allow, and tells how
-/// its run ended and what is shown. Want of memory is the only error: each run ends within its cost.
+/// Runs an image on an input, on the grid under the settings' conditions and for as many blocks as they allow, and
+/// tells how its run ended and what is shown. Want of memory is the only error: each run ends within its cost.
 pub fn run_image(
     alloc: Global,
     image: CheckedImage,
@@ -25,7 +25,7 @@ pub fn run_image(
         alloc,
         image,
         input,
-        settings.seed,
+        settings.conditions,
         settings.most,
         settings.show,
     )

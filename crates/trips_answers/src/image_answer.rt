@@ -13,7 +13,8 @@ use base::Items;
 use block_check::{CheckedImage, ImageRefusal};
 use block_image::{ImageFault, decode};
 use std::alloc::{AllocError, Global};
-use target_asm::{AsmFault, assemble};
+use target_asm::AsmFault;
+use target_file::assemble_file;
 use trips_isa::Image;
 use trips_report::Said;
 use trips_requests::Answer;
@@ -67,7 +68,7 @@ pub fn target_answer(
     ensures { IfOk result (λ answer. IsDone Run form.Target settings text.now input answer.status
         answer.report.items) }
 {
-    match assemble(alloc, text) {
+    match assemble_file(alloc, text) {
         Ok(image) => checked_answer(alloc, image, input, settings),
         Err(AsmFault::Memory) => Err(AllocError),
         Err(fault) => refused(alloc, Said::Asm(fault)),

@@ -16,7 +16,8 @@ use block_check::{CheckedImage, ImageRefusal};
 use block_image::{ImageFault, decode};
 use c_compile::compile_unrolled;
 use std::alloc::{AllocError, Global};
-use target_asm::{AsmFault, assemble};
+use target_asm::AsmFault;
+use target_file::assemble_file;
 use trips_eval_answers::stage_refused;
 use trips_grid_answers::saved_run;
 use trips_isa::Image;
@@ -116,7 +117,7 @@ pub fn target_saved(
     ensures { IfOk result (λ answer. IsDone Save form.Target settings text.now input answer.status
         answer.report.items) }
 {
-    match assemble(alloc, text) {
+    match assemble_file(alloc, text) {
         Ok(image) => checked_saved(alloc, image, input, settings),
         Err(AsmFault::Memory) => Err(AllocError),
         Err(fault) => refused(alloc, Said::Asm(fault)),

@@ -1,6 +1,6 @@
 -- Reports, worked by hand from the README of this crate.
 use Rattle.std.proofs.Common.{◌≡◌, [], refl, codes}
-use Rattle.std.specs.Prelude.{pos}
+use Rattle.std.specs.Prelude.{pos, negsuc}
 use Rattle.std.specs.Fmt.{digits}
 use Rattle.c_lex.specs.declared.fault.LexFault.TheVariants as lexical
 use Rattle.c_parse.specs.declared.unit.ParseFault.TheVariants as parse
@@ -13,6 +13,11 @@ use Rattle.trips_eval_answers.specs.Refusals.{front_refusal}
 pub done_is : eval_report (outcome.Done [] (pos 7) 4) ≡ codes "output 0\n\nresult 7\nsteps 4\n"
 unfolding digits
 done_is = refl
+
+-- the least long
+pub aborted_is : eval_report (outcome.Done [] (negsuc 9223372036854775807) 6) ≡ codes "output 0\n\naborted\nsteps 6\n"
+unfolding digits
+aborted_is = refl
 
 pub deep_is : eval_report outcome.Deep ≡ codes "deep\n"
 deep_is = refl

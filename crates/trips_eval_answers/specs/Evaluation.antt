@@ -1,18 +1,19 @@
 -- What the evaluation of a text of C is answered: the status and the report.
 use Rattle.std.specs.Prelude.{◌≡◌, ℕ, ℤ, List, ◌++◌, codes, decimal}
-use Rattle.std.specs.Fmt.{signed_decimal}
 use Rattle.c_tree.specs.declared.typed.TypedProgram.{TypedProgram}
 use Rattle.c_front.specs.declared.refusal.Refusal.{Refusal}
 use Rattle.c_front.specs.Fronts.{IsAccepted}
 use Rattle.c_front.specs.Refusals.{IsRefused}
-use Rattle.c_meaning_spec.specs.Eval.{eval}
+use Rattle.c_meaning_spec.specs.Eval.{eval, fault}
 use Rattle.c_meaning.specs.declared.outcome.Outcome.{Outcome}
 use Rattle.c_meaning.specs.declared.outcome.Outcome.TheVariants as outcome
 use Rattle.c_meaning.specs.Answer.{answer}
 use Rattle.trips_requests.specs.declared.status.Status.{Status}
 use Rattle.trips_requests.specs.declared.status.Status.TheVariants as status
+use Rattle.trips_requests.specs.Results.{result_line, result_status}
 use Rattle.trips_requests.specs.Texts.{IsFixed, output_and}
 use Rattle.trips_eval_answers.specs.Refusals.{front_refusal}
+use Rattle.trips_eval_answers.specs.Faults.{undefined_line}
 
 -- a stage of the front end refuses the text, and this is its report
 abbrev pub IsRefusedByFront : List ℕ → List ℕ → Type 0
@@ -21,25 +22,24 @@ IsRefusedByFront text report = (r : Refusal) × IsRefused text r × (report ≡ 
 -- the status that tells an outcome
 abbrev pub eval_status : Outcome → Status
 eval_status outcome.More = status.Budget
-eval_status outcome.Undefined = status.Undefined
+eval_status (outcome.Undefined output why) = status.Undefined
 eval_status outcome.Deep = status.StackFull
-eval_status (outcome.Done output result steps) = status.Ended
+eval_status (outcome.Done output result steps) = result_status result
 
--- the lines of what main returned and of how many steps were taken
+-- the lines of how the program ended and of how many steps were taken
 abbrev pub done_lines : ℤ → ℕ → List ℕ
-done_lines result steps =
-    codes "result " ++ (signed_decimal result ++ (codes "\nsteps " ++ decimal steps))
+done_lines result steps = result_line result ++ (codes "\nsteps " ++ decimal steps)
 
 -- the report of an evaluation
 abbrev pub eval_report : Outcome → List ℕ
 eval_report outcome.More = codes "more\n"
-eval_report outcome.Undefined = codes "undefined\n"
+eval_report (outcome.Undefined output why) = output_and output (undefined_line why)
 eval_report outcome.Deep = codes "deep\n"
 eval_report (outcome.Done output result steps) = output_and output (done_lines result steps)
 
 -- what the definition says of a program, an input and a number of steps
 abbrev pub outcome_of : TypedProgram → List ℕ → ℕ → Outcome
-outcome_of program input steps = answer (eval program input steps)
+outcome_of program input steps = answer (fault program input steps) (eval program input steps)
 
 -- These tell the evaluation of a program on an input, within some steps.
 abbrev pub IsEvaluation : TypedProgram → List ℕ → ℕ → Status → List ℕ → Type 0

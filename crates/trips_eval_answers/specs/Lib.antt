@@ -1,3 +1,4 @@
 pub mod Refusals
+pub mod Faults
 pub mod Evaluation
 pub mod inside

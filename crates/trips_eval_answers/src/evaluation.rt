@@ -10,7 +10,7 @@ use c_front::front;
 use c_meaning::{Outcome, evaluate};
 use c_tree::TypedProgram;
 use std::alloc::{AllocError, Global};
-use trips_requests::{Answer, Status};
+use trips_requests::{Answer, Status, end_status};
 
 // The status that tells an outcome.
 fn status_for(outcome: &Outcome) -> Status
@@ -18,9 +18,9 @@ fn status_for(outcome: &Outcome) -> Status
 {
     match outcome {
         Outcome::More => Status::Budget,
-        Outcome::Undefined => Status::Undefined,
+        Outcome::Undefined { .. } => Status::Undefined,
         Outcome::Deep => Status::StackFull,
-        Outcome::Done { .. } => Status::Ended,
+        Outcome::Done { result, .. } => end_status(result.cast_unsigned()),
     }
 }
 

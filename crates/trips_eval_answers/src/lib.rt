@@ -3,6 +3,7 @@
 #![tactic(auto)]
 
 mod evaluation;
+mod faults;
 mod refusals;
 #[cfg(test)]
 mod report_tests;

@@ -3,25 +3,32 @@
 ghost use Rattle.std.specs.Prelude.{◌≡◌, IfOk, string_bytes};
 ghost use Rattle.trips_eval_answers.specs.Evaluation.{done_lines, eval_report};
 
+use crate::faults::undefined_line;
 use c_meaning::Outcome;
 use std::alloc::{AllocError, Global};
-use trips_requests::output_text;
+use trips_requests::{end_text, output_text};
 
-// The lines of what main returned and of how many steps were taken.
-fn done_text(alloc: Global, value: i32, steps: u64) -> Result<String, AllocError>
+// The lines of how the program ended and of how many steps were taken.
+fn done_text(alloc: Global, value: i64, steps: u64) -> Result<String, AllocError>
     ensures { IfOk result (λ text. string_bytes text ≡ done_lines value steps) }
 {
-    format!(in alloc; "result {value}\nsteps {steps}")
+    let digits = format!(in alloc; "{value}")?;
+    let line = end_text(alloc, value.cast_unsigned(), digits.as_str())?;
+    format!(in alloc; "{line}\nsteps {steps}")
 }
 
-/// The report of an evaluation: its output, result and steps, or the word that says why it has none.
+/// The report of an evaluation: its output, result and steps, its output and why it is undefined, or the word that says
+/// why it has none.
 /// Want of memory is the only error.
 pub fn eval_report(alloc: Global, outcome: &Outcome) -> Result<Vec<u8>, AllocError>
     ensures ok { IfOk result (λ report. report.items ≡ eval_report outcome.now) }
 {
     match outcome {
         Outcome::More => Vec::from_slice(alloc, b"more\n"),
-        Outcome::Undefined => Vec::from_slice(alloc, b"undefined\n"),
+        Outcome::Undefined { output, why } => {
+            let line = undefined_line(alloc, *why)?;
+            output_text(alloc, output.as_slice(), line.as_str())
+        }
         Outcome::Deep => Vec::from_slice(alloc, b"deep\n"),
         Outcome::Done {
             output,

@@ -87,10 +87,10 @@ module _ (input : List ℕ) (seed most : ℕ) (w : Fours PcgWeather) where
   texts_same p (image ∷ images) [] h = absurd h
 
   pub status_same : (p : ℕ) (images : List Image) (es : List Ending) → AllEnd p images es
-      → status_by es ≡ first_status input most images
+      → status_by w p es ≡ first_status input most images
   status_same p [] [] h = refl
   status_same p (image ∷ images) (e ∷ es) h =
-      ap₂ status_or (ap status_of h.0.ending) (status_same (p + 1) images es h.1)
+      ap₂ status_or (ap₂ status_of h.0.ending h.0.state) (status_same (p + 1) images es h.1)
   status_same p [] (e ∷ es) h = absurd h
   status_same p (image ∷ images) [] h = absurd h
 

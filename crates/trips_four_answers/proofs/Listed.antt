@@ -23,14 +23,14 @@ all_four (a ∷ b ∷ c ∷ d ∷ x ∷ xs) e = absurd (omega (arith, e))
 
 -- what is told of them one by one is told of all
 pub are_told : (v : Fours PcgWeather) (cycles : Bool) (es : List Ending) (s : Status) (text report : List ℕ)
-    (made cost : ℕ) → length es ≡ 4 → s ≡ status_by (one_by_one es) → text ≡ texts_by v 0 (one_by_one es)
+    (made cost : ℕ) → length es ≡ 4 → s ≡ status_by v 0 (one_by_one es) → text ≡ texts_by v 0 (one_by_one es)
     → made ≡ v.four.cycles → cost ≡ costs_by v 0 (one_by_one es) → report ≡ text ++ counts_text cycles made cost
     → AreTold v cycles es s report
 are_told v cycles es s text report made cost four status_is text_is made_is cost_is is =
     let all = all_four es four in (
       four,
       (
-        status_is ∙ ap status_by all,
+        status_is ∙ ap (status_by v 0) all,
         is ∙ ap₂ (λ (x y : List ℕ). x ++ y) (text_is ∙ ap (texts_by v 0) all)
             (ap₂ (counts_text cycles) made_is (cost_is ∙ ap (costs_by v 0) all)),
       ),

@@ -58,7 +58,7 @@ status_or other later = other
 abbrev pub first_status : List ℕ → ℕ → List Image → Status
 first_status input most [] = status.Ended
 first_status input most (image ∷ images) =
-    status_or (status_of (own_ending input most image)) (first_status input most images)
+    status_or (status_of (own_ending input most image) (own_run input most image).0) (first_status input most images)
 
 -- how many cycles were made, and how many the four might cost, where that is shown
 unfoldable pub counts_text : Bool → ℕ → ℕ → List ℕ

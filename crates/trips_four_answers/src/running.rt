@@ -6,6 +6,8 @@ ghost use Rattle.smt_mode.specs.Machines.{four_of, images_of};
 ghost use Rattle.smt_mode.specs.Starts.{begun_at, images_at};
 ghost use Rattle.trips_four_answers.specs.Runs.{IsFourRun, IsStarted};
 ghost use Rattle.trips_four_answers.specs.inside.Ended as ended;
+ghost use Rattle.trips_report.specs.Endings.{status_of};
+ghost use Rattle.trips_four_answers.specs.Report.{status_or};
 ghost use Rattle.trips_four_answers.specs.inside.Ended.{AreTold, HaveBegun, costs_by, status_by, text_by, texts_by};
 
 use crate::telling::{program_cost, status_before, tell_counts, tell_program};
@@ -100,6 +102,14 @@ fn cost_by(four: &Four<PcgWeather>, program: u8, ending: Ending) -> u64
     program_cost(four.window(program), ending)
 }
 
+// The status of a program that has ended so, or behind an end the later one.
+fn status_from(four: &Four<PcgWeather>, program: u8, ending: Ending, later: Status) -> Status
+    requires { program < 4 }
+    ensures { result ≡ status_or (status_of ending ((fours_of four.now).four.own program).window.state) later }
+{
+    status_before(four.window(program), ending, later)
+}
+
 // The reports of all.
 fn reports(
     alloc: Global,
@@ -137,11 +147,19 @@ fn costs(
 }
 
 // The status of the lowest that has not ended with its end.
-fn status(first: Ending, second: Ending, third: Ending, fourth: Ending) -> Status
-    ensures { result ≡ status_by (first ∷ second ∷ third ∷ fourth ∷ []) }
+fn status(
+    four: &Four<PcgWeather>,
+    first: Ending,
+    second: Ending,
+    third: Ending,
+    fourth: Ending,
+) -> Status
+    ensures { result ≡ status_by (fours_of four.now) 0 (first ∷ second ∷ third ∷ fourth ∷ []) }
 {
-    let last = status_before(fourth, Status::Ended);
-    status_before(first, status_before(second, status_before(third, last)))
+    let last = status_from(four, 3, fourth, Status::Ended);
+    let third_on = status_from(four, 2, third, last);
+    let second_on = status_from(four, 1, second, third_on);
+    status_from(four, 0, first, second_on)
 }
 
 // There are four. It does nothing.
@@ -164,7 +182,7 @@ fn ended_answer(
     let cost = costs(four, first, second, third, fourth);
     tell_counts(&mut report, cycles, four.cycles(), cost)?;
     Ok(Answer {
-        status: status(first, second, third, fourth),
+        status: status(four, first, second, third, fourth),
         report,
     })
 }

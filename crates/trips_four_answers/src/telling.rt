@@ -132,8 +132,8 @@ fn status_or(status: Status, later: Status) -> Status
 }
 
 /// The status of the lowest of some programs that has not ended with its end.
-pub fn status_before(ending: Ending, later: Status) -> Status
-    ensures { result ≡ report.status_or (status_of ending) later }
+pub fn status_before(window: &Window, ending: Ending, later: Status) -> Status
+    ensures { result ≡ report.status_or (status_of ending window.now.window.state) later }
 {
-    status_or(status_for(ending), later)
+    status_or(status_for(ending, window.arch().register(3)), later)
 }

@@ -1,6 +1,7 @@
 -- Runs of the grid, and what is written of them.
 use Rattle.std.proofs.Common.{◌≡◌, ℕ, ◌+◌, ◌≤◌, ◌<◌, true, false, List, length, slice_get, refl, sym, ap, ◌∙◌, subst}
 use Rattle.std.proofs.Common.{Some, None, Result, Ok, Err, IfOk, true≢false, nat_lt, take}
+use Rattle.std.proofs.lemmas.List.{get_or-drop}
 use Rattle.std.proofs.lemmas.Option.{none-some, same_Some}
 use Rattle.trips_isa.specs.declared.block.Block.{Block}
 use Rattle.trips_isa.specs.declared.causes.TrapCause.{TrapCause}
@@ -10,12 +11,13 @@ use Rattle.trips_isa.specs.declared.run.Ending.TheVariants as ending
 use Rattle.trips_isa.specs.declared.run.Stepped.{Stepped}
 use Rattle.trips_isa.specs.declared.run.Stepped.TheVariants as stepped
 use Rattle.trips_isa.specs.Machine.{State, runs}
-use Rattle.operand_net.specs.declared.weather.PcgWeather.{PcgWeather}
+use Rattle.grid_cycle.specs.declared.weather.AnyWeather.{AnyWeather}
+use Rattle.grid_cycle.specs.declared.conditions.Conditions.{Conditions}
 use Rattle.grid_cycle_spec.specs.Costs.{cost_in, cost_of, greatest_cost}
 use Rattle.grid_cycle_spec.specs.Grid.{Grid}
 use Rattle.grid_machine.specs.Answered.{ComesTo}
 use Rattle.grid_machine.specs.Endings as endings
-use Rattle.grid_machine.specs.Seeds.{IsAfter, IsRanFrom, next_hold, started_on}
+use Rattle.grid_cycle.specs.Conditions.{IsAfter, IsRanFrom, next_hold, started_on}
 use Rattle.grid_cycle.specs.Traps.{is_trap}
 use Rattle.grid_events.specs.Notes.{Note}
 use Rattle.grid_tallies.specs.declared.statistic.Statistic.{Statistic}
@@ -70,6 +72,7 @@ shown_number statistic.Violations t f = refl
 shown_number statistic.WrongExits t f = refl
 shown_number statistic.Ends t f = refl
 shown_number statistic.Predictions t f = refl
+shown_number (statistic.Station tile) c f = get_or-drop 9 (c.tallies).numbers tile 0
 
 -- the statistics that are shown of counters are of the notes that these have heard
 statistics_are : (cycles : List (List Note)) (notes : List Note) (c : Counters) (f : Flights) → AreCountersOf notes c
@@ -81,7 +84,7 @@ statistics_are cycles notes c f of flown = record {
 }
 
 -- what is told of the events of a run with these notes of its cycles, and this grid behind the last
-abbrev pub Told : Show → ℕ → List (List Note) → Grid PcgWeather → Measured → Type 0
+abbrev pub Told : Show → ℕ → List (List Note) → Grid AnyWeather → Measured → Type 0
 Told show most ess last m = show.stats ≡ false → (c : Cycles) → show.events ≡ Some c
     → m.events ≡ event_lines c ess (end_notes most last)
 
@@ -100,29 +103,29 @@ lines_are c d l ess end e is h =
     ∙ ap (λ (x : Cycles). event_lines x ess end) e
 
 -- no more cycles than a trace costs and the block that trapped, which is one of the image
-abbrev pub Trapped : List Block → State → ℕ → ℕ → Grid PcgWeather → Type 0
-Trapped blocks s most seed g = (block : ℕ) (cause : TrapCause)
-    → IsRanFrom blocks s most seed (Some (ending.Trap block cause)) g
+abbrev pub Trapped : List Block → State → ℕ → Conditions → Grid AnyWeather → Type 0
+Trapped blocks s most conditions g = (block : ℕ) (cause : TrapCause)
+    → IsRanFrom blocks s most conditions (Some (ending.Trap block cause)) g
     → (block < length blocks)
     × (g.counts.cycles ≤ cost_of blocks g.window.state.trace + cost_in (slice_get blocks block))
 
-module _ (blocks : List Block) (s : State) (seed most : ℕ) (show : Show) where
+module _ (blocks : List Block) (s : State) (conditions : Conditions) (most : ℕ) (show : Show) where
   -- a run of the grid that has ended, with the answer that tells it
-  grid_told : (answered : Status) (report : List ℕ) (seen : List Block) (e : Ending) (g : Grid PcgWeather)
+  grid_told : (answered : Status) (report : List ℕ) (seen : List Block) (e : Ending) (g : Grid AnyWeather)
       (m : Measured) (notes : List Note)
-      → IsRanFrom blocks s most seed (Some e) g → seen ≡ blocks → m.counts ≡ g.counts
-      → (noted : AreNotesFrom blocks s most seed notes g)
+      → IsRanFrom blocks s most conditions (Some e) g → seen ≡ blocks → m.counts ≡ g.counts
+      → (noted : AreNotesFrom blocks s most conditions notes g)
       → (show.stats ≡ true → AreStatistics noted.cycles notes m.statistics)
       → Told show most noted.cycles noted.last m
       → (is_trap e ≡ false → g.counts.cycles ≤ cost_of blocks g.window.state.trace)
-      → g.counts.cycles ≤ cost_of blocks g.window.state.trace + greatest_cost → Trapped blocks s most seed g
-      → TellsGrid e seen g m show answered report → IsRunFrom blocks s seed most show answered report
+      → g.counts.cycles ≤ cost_of blocks g.window.state.trace + greatest_cost → Trapped blocks s most conditions g
+      → TellsGrid e seen g m show answered report → IsRunFrom blocks s conditions most show answered report
   grid_told answered report seen e g m notes ran same is noted statistics events within at_most trapped told =
       let c : ComesTo blocks s most e g = ran.comes in
       let ends : e ≡ end_of blocks s most =
       c.ending ∙ same_ending (runs blocks s most).1 (runs blocks s most).0.next in
-      let ran_so : IsRanFrom blocks s most seed (Some (end_of blocks s most)) g =
-      subst (λ (x : Ending). IsRanFrom blocks s most seed (Some x) g) ends ran in (
+      let ran_so : IsRanFrom blocks s most conditions (Some (end_of blocks s most)) g =
+      subst (λ (x : Ending). IsRanFrom blocks s most conditions (Some x) g) ends ran in (
         m,
         record {
           grid = g;
@@ -139,13 +142,15 @@ module _ (blocks : List Block) (s : State) (seed most : ℕ) (show : Show) where
               ≤ cost_of blocks (runs blocks s most).0.trace + cost_in (slice_get blocks block)) (sym is)
               (subst (λ (t : State). g.counts.cycles ≤ cost_of blocks t.trace + cost_in (slice_get blocks block))
               c.state
-              (trapped block cause (subst (λ (x : Ending). IsRanFrom blocks s most seed (Some x) g) at ran_so)).1);
+              (trapped block cause (subst (λ (x : Ending). IsRanFrom blocks s most conditions (Some x) g) at
+              ran_so)).1);
           at_most = subst (λ (k : Counts). k.cycles
               ≤ cost_of blocks (runs blocks s most).0.trace + greatest_cost) (sym is)
               (subst (λ (t : State). g.counts.cycles ≤ cost_of blocks t.trace + greatest_cost) c.state at_most);
         },
         (
-          told.0 ∙ ap status_of ends,
+          told.0 ∙ ap (λ (x : Ending). status_of x g.window.state) ends
+              ∙ ap (λ (t : State). status_of (end_of blocks s most) t) c.state,
           told.1 ∙ ap (λ (x : Ending). shown_report x g.window.state m
               (cost_of seen g.window.state.trace) show) ends
               ∙ ap (λ (bs : List Block). shown_report (end_of blocks s most) g.window.state
@@ -154,48 +159,49 @@ module _ (blocks : List Block) (s : State) (seed most : ℕ) (show : Show) where
         ),
       )
 
-  module _ {E : Type 0} (seen : List Block) (e : Ending) (g : Grid PcgWeather) (r : Result Answer E)
+  module _ {E : Type 0} (seen : List Block) (e : Ending) (g : Grid AnyWeather) (r : Result Answer E)
       (same : seen ≡ blocks)
-      (within : is_trap e ≡ false → IsRanFrom blocks s most seed (Some e) g
+      (within : is_trap e ≡ false → IsRanFrom blocks s most conditions (Some e) g
       → g.counts.cycles ≤ cost_of blocks g.window.state.trace)
-      (at_most : IsRanFrom blocks s most seed (Some e) g
+      (at_most : IsRanFrom blocks s most conditions (Some e) g
       → g.counts.cycles ≤ cost_of blocks g.window.state.trace + greatest_cost)
-      (trapped : Trapped blocks s most seed g) where
+      (trapped : Trapped blocks s most conditions g) where
     -- the answer of a run that has ended
-    ended_told : (r : Result Answer E) (m : Measured) (notes : List Note) → IsRanFrom blocks s most seed (Some e) g
-        → m.counts ≡ g.counts → (noted : AreNotesFrom blocks s most seed notes g)
+    ended_told : (r : Result Answer E) (m : Measured) (notes : List Note)
+        → IsRanFrom blocks s most conditions (Some e) g → m.counts ≡ g.counts →
+        (noted : AreNotesFrom blocks s most conditions notes g)
         → (show.stats ≡ true → AreStatistics noted.cycles notes m.statistics)
         → Told show most noted.cycles noted.last m
         → IfOk r (λ a. TellsGrid e seen g m show a.status a.report.items)
-        → IfOk r (λ a. IsRunFrom blocks s seed most show a.status a.report.items)
+        → IfOk r (λ a. IsRunFrom blocks s conditions most show a.status a.report.items)
     ended_told (Err x) m notes ran is noted statistics events told = tt
     ended_told (Ok a) m notes ran is noted statistics events told =
         grid_told a.status a.report.items seen e g m notes ran same is noted statistics events (λ none. within none ran)
         (at_most ran) trapped told
 
     -- of which no statistics and no events are shown
-    pub plain_told : IsRanFrom blocks s most seed (Some e) g → show.stats ≡ false → show.events ≡ None
+    pub plain_told : IsRanFrom blocks s most conditions (Some e) g → show.stats ≡ false → show.events ≡ None
         → IfOk r (λ a. TellsGrid e seen g (uncounted g.counts) show a.status a.report.items)
-        → IfOk r (λ a. IsRunFrom blocks s seed most show a.status a.report.items)
+        → IfOk r (λ a. IsRunFrom blocks s conditions most show a.status a.report.items)
     plain_told ran off untold told =
-        let n : HasNotes next_hold IsAfter blocks most g.counts.cycles (started_on s seed) g =
-        run_has_notes next_hold IsAfter blocks most g.counts.cycles (started_on s seed) g ran.run in
+        let n : HasNotes next_hold IsAfter blocks most g.counts.cycles (started_on s conditions) g =
+        run_has_notes next_hold IsAfter blocks most g.counts.cycles (started_on s conditions) g ran.run in
         ended_told r (uncounted g.counts) n.notes ran refl n.noted (λ on. absurd (true≢false (sym on ∙ off)))
         (λ o c at. absurd (none-some c (sym untold ∙ at))) told
 
     -- and one that was counted
-    pub counted_told : (t : Counters) (f : Flights) → HasCounted blocks s most seed e g t f → show.stats ≡ true
+    pub counted_told : (t : Counters) (f : Flights) → HasCounted blocks s most conditions e g t f → show.stats ≡ true
         → IfOk r (λ a. TellsGrid e seen g (measured_of g.counts t f) show a.status a.report.items)
-        → IfOk r (λ a. IsRunFrom blocks s seed most show a.status a.report.items)
+        → IfOk r (λ a. IsRunFrom blocks s conditions most show a.status a.report.items)
     counted_told t f h on told = ended_told r (measured_of g.counts t f) h.notes h.ran refl h.noted
         (λ o. statistics_are (h.noted).cycles h.notes t f h.counted h.flown)
         (λ off. absurd (true≢false (sym on ∙ off))) told
 
     -- and one whose events were logged, those of some cycles
-    pub logged_told : (c : Cycles) (l : Log) → HasLogged blocks s most seed c.first c.last most_events e g l
+    pub logged_told : (c : Cycles) (l : Log) → HasLogged blocks s most conditions c.first c.last most_events e g l
         → l.lost ≡ false → show.stats ≡ false → show.events ≡ Some c
         → IfOk r (λ a. TellsGrid e seen g (logged_of g.counts l) show a.status a.report.items)
-        → IfOk r (λ a. IsRunFrom blocks s seed most show a.status a.report.items)
+        → IfOk r (λ a. IsRunFrom blocks s conditions most show a.status a.report.items)
     logged_told c l h kept off on told = ended_told r (logged_of g.counts l) h.notes h.ran refl h.noted
         (λ o. absurd (true≢false (sym o ∙ off)))
         (λ o d at. lines_are c d l h.noted.cycles (end_notes most h.noted.last) (same_Some c d (sym on ∙ at)) h.limited

@@ -8,13 +8,14 @@ use Rattle.trips_isa.specs.declared.run.Ending.TheVariants as ending
 use Rattle.trips_isa.specs.declared.run.Stepped.{Stepped}
 use Rattle.trips_isa.specs.declared.run.Stepped.TheVariants as stepped
 use Rattle.trips_isa.specs.Machine.{State, runs, start}
-use Rattle.operand_net.specs.declared.weather.PcgWeather.{PcgWeather}
+use Rattle.grid_cycle.specs.declared.weather.AnyWeather.{AnyWeather}
+use Rattle.grid_cycle.specs.declared.conditions.Conditions.{Conditions}
 use Rattle.block_check.specs.Faults.{IsGood}
 use Rattle.block_image.specs.Spelling.{ImageBytes}
 use Rattle.grid_cycle_spec.specs.Grid.{Grid}
 use Rattle.grid_machine.specs.Answered.{ComesTo}
 use Rattle.grid_machine.specs.Endings as endings
-use Rattle.grid_machine.specs.Seeds.{IsRan}
+use Rattle.grid_cycle.specs.Conditions.{IsRan}
 use Rattle.grid_cycle.proofs.Making.{runs_inside}
 use Rattle.machine_save.specs.Limits.{most_output, most_rest}
 use Rattle.machine_save.specs.Spelling.{SaveBytes}
@@ -25,10 +26,10 @@ use Rattle.trips_grid_answers.specs.Saved.{over_text, IsSavedRun}
 use Rattle.trips_grid_answers.proofs.Spending.{runs_spend}
 
 -- what a run of the grid has come to has put out no more bytes than it may save, nor more input left
-pub few_output : (image : Image) (input : List ℕ) (at seed : ℕ) (e : Ending) (g : Grid PcgWeather)
-    → IsRan image.blocks image.bytes input at seed (Some e) g → at ≤ most_output
+pub few_output : (image : Image) (input : List ℕ) (at : ℕ) (conditions : Conditions) (e : Ending) (g : Grid AnyWeather)
+    → IsRan image.blocks image.bytes input at conditions (Some e) g → at ≤ most_output
     → length g.window.state.output ≤ most_output
-few_output image input at seed e g ran few =
+few_output image input at conditions e g ran few =
     let c : ComesTo image.blocks (start image.bytes input) at e g = ran.comes in
     let s = runs_spend image.blocks (start image.bytes input) at in
     let a = s.output in
@@ -36,10 +37,10 @@ few_output image input at seed e g ran few =
     ap (λ (t : State). length t.output) c.state in
     omega (arith, a, b, few)
 
-pub few_rest : (image : Image) (input : List ℕ) (at seed : ℕ) (e : Ending) (g : Grid PcgWeather)
-    → IsRan image.blocks image.bytes input at seed (Some e) g → length input ≤ most_rest
+pub few_rest : (image : Image) (input : List ℕ) (at : ℕ) (conditions : Conditions) (e : Ending) (g : Grid AnyWeather)
+    → IsRan image.blocks image.bytes input at conditions (Some e) g → length input ≤ most_rest
     → length g.window.state.rest ≤ most_rest
-few_rest image input at seed e g ran few =
+few_rest image input at conditions e g ran few =
     let c : ComesTo image.blocks (start image.bytes input) at e g = ran.comes in
     let s = runs_spend image.blocks (start image.bytes input) at in
     let a = s.rest in
@@ -55,16 +56,17 @@ went_is stepped.StackFull next e = absurd (cc)
 went_is (stepped.Trap c) next e = absurd (cc)
 
 -- the answer of a run that has ended or was stopped
-pub saved_told : {E : Type 0} (image : Image) (input part : List ℕ) (at seed : ℕ) (e : Ending) (g : Grid PcgWeather)
-    (r : Result Answer E) → IsRan image.blocks image.bytes input at seed (Some e) g
+pub saved_told : {E : Type 0} (image : Image) (input part : List ℕ) (at : ℕ) (conditions : Conditions)
+    (e : Ending) (g : Grid AnyWeather) (r : Result Answer E) → IsRan image.blocks image.bytes input at conditions
+    (Some e) g
     → ImageBytes image part → All IsGood image.blocks
     → IfOk r (λ a. e ≡ ending.Budget → (a.status ≡ status.Ended)
     × ((of : Image) → ImageBytes of part → All IsGood of.blocks → g.window.state.next < length of.blocks
     → SaveBytes of g.window.state a.report.items))
     → IfOk r (λ a. (e ≡ ending.Budget → ⊥) → IsFixed status.Refused over_text a.status a.report.items)
     → IfOk r (λ a. IsSavedRun image input at a.status a.report.items)
-saved_told image input part at seed e g (Err x) ran is good saves overs = tt
-saved_told image input part at seed e g (Ok a) ran is good saves overs =
+saved_told image input part at conditions e g (Err x) ran is good saves overs = tt
+saved_told image input part at conditions e g (Ok a) ran is good saves overs =
     by (runs image.blocks (start image.bytes input) at).1 refl
   where
     came : ComesTo image.blocks (start image.bytes input) at e g

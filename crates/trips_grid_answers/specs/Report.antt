@@ -48,7 +48,7 @@ trap_cost blocks (ending.Trap block cause) = cost_in (slice_get blocks block)
 trap_cost blocks _ = 0
 
 -- What is counted of a run whose committed blocks are this trace, and which ended so. Whose counts they are stands in
--- `IsCountedFrom`: those of a grid that exactly so many cycles lead to from the seed's start.
+-- `IsCountedFrom`: those of a grid that exactly so many cycles lead to from its start.
 pub record CountsRun (blocks : List Block) (trace : List Traced) (show : Show) (ended : Ending) (measured : Measured)
     : Type 0 where
   -- each block of the trace is counted as committed, and no other
@@ -71,4 +71,4 @@ TellsRunFrom blocks t most show s report =
     let run = runs blocks t most in
     let ended = ending_of run.1 run.0.next in
     (measured : Measured) × CountsRun blocks run.0.trace show ended measured
-    × IsFixed (status_of ended) (shown_report ended run.0 measured (cost_of blocks run.0.trace) show) s report
+    × IsFixed (status_of ended run.0) (shown_report ended run.0 measured (cost_of blocks run.0.trace) show) s report

@@ -9,6 +9,7 @@ use Rattle.machine_save.specs.declared.fault.SaveFault.{SaveFault}
 use Rattle.machine_save.specs.declared.fault.SaveFault.TheVariants as save
 use Rattle.machine_save.specs.Spelling.{SaveBytes}
 use Rattle.machine_save.specs.FirstFault.{FirstSaveFault}
+use Rattle.grid_cycle.specs.declared.conditions.Conditions.{Conditions}
 use Rattle.trips_report.specs.declared.show.Show.{Show}
 use Rattle.trips_report.specs.Refusals.{at_place}
 use Rattle.trips_requests.specs.declared.status.Status.{Status}
@@ -52,12 +53,12 @@ abbrev pub IsNoSave : List ℕ → List ℕ → Type 0
 IsNoSave bytes text = (f : SaveFault) × FirstSaveFault bytes f × (text ≡ save_text f)
 
 -- The run from the state that the bytes save is told, whose trace begins empty.
-abbrev pub IsResumedRun : List ℕ → ℕ → ℕ → Show → Status → List ℕ → Type 0
-IsResumedRun bytes seed most show s report = (image : Image) × (t : State) × SaveBytes image t bytes
-    × (t.trace ≡ []) × IsRunFrom image.blocks t seed most show s report
+abbrev pub IsResumedRun : List ℕ → Conditions → ℕ → Show → Status → List ℕ → Type 0
+IsResumedRun bytes conditions most show s report = (image : Image) × (t : State) × SaveBytes image t bytes
+    × (t.trace ≡ []) × IsRunFrom image.blocks t conditions most show s report
 
 -- or they are refused
-abbrev pub IsResumed : List ℕ → ℕ → ℕ → Show → Status → List ℕ → Type 0
-IsResumed bytes seed most show s report =
+abbrev pub IsResumed : List ℕ → Conditions → ℕ → Show → Status → List ℕ → Type 0
+IsResumed bytes conditions most show s report =
     ((text : List ℕ) × IsNoSave bytes text × IsFixed status.Refused text s report)
-    ⊎ IsResumedRun bytes seed most show s report
+    ⊎ IsResumedRun bytes conditions most show s report

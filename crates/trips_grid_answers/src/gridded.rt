@@ -2,7 +2,7 @@
 
 ghost use Rattle.std.specs.Prelude.{◌≡◌, ◌<◌, ◌≤◌, IfOk, None, Some, [], length, true, false};
 ghost use Rattle.trips_isa.specs.Machine.{start};
-ghost use Rattle.grid_machine.specs.Seeds.{IsRan, IsRanFrom};
+ghost use Rattle.grid_cycle.specs.Conditions.{IsRan, IsRanFrom};
 ghost use Rattle.grid_cycle.specs.Engines.{blocks_of, grid_of};
 ghost use Rattle.grid_counted.specs.Seeds.{HasCounted};
 ghost use Rattle.trips_report.specs.Runs.{uncounted};
@@ -16,7 +16,7 @@ use base::Items;
 use block_atomic::Arch;
 use block_check::CheckedImage;
 use grid_counted::Counted;
-use grid_cycle::{Ran, runs_from_a_state_end, runs_of_a_seed_end};
+use grid_cycle::{Conditions, Ran, runs_from_a_state_end, runs_from_the_start_end};
 use grid_tallies::{Counters, Flights, Statistic};
 use std::alloc::{AllocError, Global};
 use trips_report::{Measured, Show, Statistics, status_for};
@@ -33,7 +33,7 @@ fn ended_answer(alloc: Global, ran: &Ran, show: Show) -> Result<Answer, AllocErr
     let cost = ran.grid.cost();
     let report = run_text(alloc, ending, arch, measured, cost, show)?;
     Ok(Answer {
-        status: status_for(ending),
+        status: status_for(ending, arch.register(3)),
         report,
     })
 }
@@ -55,6 +55,7 @@ fn statistics_of(told: &Counters, flights: &Flights) -> Statistics
         predictions: tallies.get(Statistic::Predictions),
         right: told.guesses.right,
         in_flight: flights.cycles,
+        stations: tallies.stations(),
     }
 }
 
@@ -74,27 +75,27 @@ fn counted_answer(alloc: Global, run: &Counted, show: Show) -> Result<Answer, Al
     let cost = run.cost();
     let report = run_text(alloc, ending, arch, measured, cost, show)?;
     Ok(Answer {
-        status: status_for(ending),
+        status: status_for(ending, arch.register(3)),
         report,
     })
 }
 
 // FROM THE START
 
-/// Runs an image on an input, on the grid of a seed and for at most so many blocks.
+/// Runs an image on an input, on the grid under these conditions and for at most so many blocks.
 pub fn ran_image(
     alloc: Global,
     image: CheckedImage,
     input: Items<u8>,
-    seed: u64,
+    conditions: Conditions,
     most: u32,
 ) -> Result<Ran, AllocError>
     requires some { 0 < most }
-    ensures ran { IfOk result (λ ran. IsRan image.blocks image.bytes input most seed
+    ensures ran { IfOk result (λ ran. IsRan image.blocks image.bytes input most conditions
         (Some ran.ending) (grid_of ran.grid)) }
     ensures image { IfOk result (λ ran. blocks_of ran.grid ≡ image.blocks) }
 {
-    match grid_cycle::run_image(alloc, image, input.into_vec(), seed, most) {
+    match grid_cycle::run_image(alloc, image, input.into_vec(), conditions, most) {
         Ok(ran) => Ok(ran),
         Err(_) => Err(AllocError),
     }
@@ -105,15 +106,15 @@ fn counted_image(
     alloc: Global,
     image: CheckedImage,
     input: Items<u8>,
-    seed: u64,
+    conditions: Conditions,
     most: u32,
 ) -> Result<Counted, AllocError>
     requires some { 0 < most }
-    ensures ran { IfOk result (λ run. HasCounted image.blocks (start image.bytes input) most seed run.ending
+    ensures ran { IfOk result (λ run. HasCounted image.blocks (start image.bytes input) most conditions run.ending
         (grid_of run.grid) run.told run.flights) }
     ensures image { IfOk result (λ run. blocks_of run.grid ≡ image.blocks) }
 {
-    match grid_counted::run_image(alloc, image, input.into_vec(), seed, most) {
+    match grid_counted::run_image(alloc, image, input.into_vec(), conditions, most) {
         Ok(run) => Ok(run),
         Err(_) => Err(AllocError),
     }
@@ -124,19 +125,19 @@ fn plain_run(
     alloc: Global,
     image: CheckedImage,
     input: Items<u8>,
-    seed: u64,
+    conditions: Conditions,
     most: u32,
     show: Show,
 ) -> Result<Answer, AllocError>
     requires some { 0 < most }
     requires plain { show.stats ≡ false }
     requires untold { show.events ≡ None }
-    ensures { IfOk result (λ answer. IsRunFrom image.blocks (start image.bytes input) seed most show
+    ensures { IfOk result (λ answer. IsRunFrom image.blocks (start image.bytes input) conditions most show
         answer.status answer.report.items) }
 {
     let _ = image.count();
-    runs_of_a_seed_end();
-    let ran = ran_image(alloc, image, input, seed, most)?;
+    runs_from_the_start_end();
+    let ran = ran_image(alloc, image, input, conditions, most)?;
     ended_answer(alloc, &ran, show)
 }
 
@@ -145,64 +146,64 @@ fn counted_run(
     alloc: Global,
     image: CheckedImage,
     input: Items<u8>,
-    seed: u64,
+    conditions: Conditions,
     most: u32,
     show: Show,
 ) -> Result<Answer, AllocError>
     requires some { 0 < most }
     requires counted { show.stats ≡ true }
-    ensures { IfOk result (λ answer. IsRunFrom image.blocks (start image.bytes input) seed most show
+    ensures { IfOk result (λ answer. IsRunFrom image.blocks (start image.bytes input) conditions most show
         answer.status answer.report.items) }
 {
     let _ = image.count();
-    runs_of_a_seed_end();
-    let counted = counted_image(alloc, image, input, seed, most)?;
+    runs_from_the_start_end();
+    let counted = counted_image(alloc, image, input, conditions, most)?;
     counted_answer(alloc, &counted, show)
 }
 
-/// Runs an image on an input, on the grid of a seed and for as many blocks as are allowed, and tells how its run
-/// ended and what is shown. Want of memory is the only error: each run ends within its cost. Its statistics are
+/// Runs an image on an input, on the grid under these conditions and for as many blocks as are allowed, and tells how
+/// its run ended and what is shown. Want of memory is the only error: each run ends within its cost. Its statistics are
 /// counted where they are shown, and else events are logged where those of some cycles are.
 pub fn run_image(
     alloc: Global,
     image: CheckedImage,
     input: Items<u8>,
-    seed: u64,
+    conditions: Conditions,
     most: u32,
     show: Show,
 ) -> Result<Answer, AllocError>
     requires some { 0 < most }
-    ensures { IfOk result (λ answer. IsRunFrom image.blocks (start image.bytes input) seed most show
+    ensures { IfOk result (λ answer. IsRunFrom image.blocks (start image.bytes input) conditions most show
         answer.status answer.report.items) }
 {
     if show.stats {
-        return counted_run(alloc, image, input, seed, most, show);
+        return counted_run(alloc, image, input, conditions, most, show);
     }
     match show.events {
-        Some(cycles) => logged_run(alloc, image, input, seed, most, show, cycles),
-        None => plain_run(alloc, image, input, seed, most, show),
+        Some(cycles) => logged_run(alloc, image, input, conditions, most, show, cycles),
+        None => plain_run(alloc, image, input, conditions, most, show),
     }
 }
 
 // FROM A STATE
 
-// Goes on from a state on the grid of a seed, for at most so many blocks.
+// Goes on from a state on the grid under these conditions, for at most so many blocks.
 fn ran_from(
     alloc: Global,
     image: CheckedImage,
     arch: Arch,
-    seed: u64,
+    conditions: Conditions,
     most: u32,
 ) -> Result<Ran, AllocError>
     requires some { 0 < most }
     requires next { arch.state.next < length image.blocks }
     requires room { most ≤ arch.budget }
     requires fresh { arch.state.trace ≡ [] }
-    ensures ran { IfOk result (λ ran. IsRanFrom image.blocks arch.state most seed
+    ensures ran { IfOk result (λ ran. IsRanFrom image.blocks arch.state most conditions
         (Some ran.ending) (grid_of ran.grid)) }
     ensures image { IfOk result (λ ran. blocks_of ran.grid ≡ image.blocks) }
 {
-    match grid_cycle::resume_image(alloc, image, arch, seed, most) {
+    match grid_cycle::resume_image(alloc, image, arch, conditions, most) {
         Ok(ran) => Ok(ran),
         Err(_) => Err(AllocError),
     }
@@ -213,18 +214,18 @@ fn counted_from(
     alloc: Global,
     image: CheckedImage,
     arch: Arch,
-    seed: u64,
+    conditions: Conditions,
     most: u32,
 ) -> Result<Counted, AllocError>
     requires some { 0 < most }
     requires next { arch.state.next < length image.blocks }
     requires room { most ≤ arch.budget }
     requires fresh { arch.state.trace ≡ [] }
-    ensures ran { IfOk result (λ run. HasCounted image.blocks arch.state most seed run.ending (grid_of run.grid)
+    ensures ran { IfOk result (λ run. HasCounted image.blocks arch.state most conditions run.ending (grid_of run.grid)
         run.told run.flights) }
     ensures image { IfOk result (λ run. blocks_of run.grid ≡ image.blocks) }
 {
-    match grid_counted::resume_image(alloc, image, arch, seed, most) {
+    match grid_counted::resume_image(alloc, image, arch, conditions, most) {
         Ok(run) => Ok(run),
         Err(_) => Err(AllocError),
     }
@@ -235,7 +236,7 @@ fn plain_from(
     alloc: Global,
     image: CheckedImage,
     arch: Arch,
-    seed: u64,
+    conditions: Conditions,
     most: u32,
     show: Show,
 ) -> Result<Answer, AllocError>
@@ -245,14 +246,14 @@ fn plain_from(
     requires fresh { arch.state.trace ≡ [] }
     requires plain { show.stats ≡ false }
     requires untold { show.events ≡ None }
-    ensures { IfOk result (λ answer. IsRunFrom image.blocks arch.state seed most show
-        answer.status answer.report.items) }
+    ensures { IfOk result
+        (λ answer. IsRunFrom image.blocks arch.state conditions most show answer.status answer.report.items) }
 {
     let _ = image.count();
     let _ = arch.memory();
     let _ = arch.register(0);
     runs_from_a_state_end();
-    let ran = ran_from(alloc, image, arch, seed, most)?;
+    let ran = ran_from(alloc, image, arch, conditions, most)?;
     ended_answer(alloc, &ran, show)
 }
 
@@ -261,7 +262,7 @@ fn counted_run_from(
     alloc: Global,
     image: CheckedImage,
     arch: Arch,
-    seed: u64,
+    conditions: Conditions,
     most: u32,
     show: Show,
 ) -> Result<Answer, AllocError>
@@ -270,25 +271,25 @@ fn counted_run_from(
     requires room { most ≤ arch.budget }
     requires fresh { arch.state.trace ≡ [] }
     requires counted { show.stats ≡ true }
-    ensures { IfOk result (λ answer. IsRunFrom image.blocks arch.state seed most show
-        answer.status answer.report.items) }
+    ensures { IfOk result
+        (λ answer. IsRunFrom image.blocks arch.state conditions most show answer.status answer.report.items) }
 {
     let _ = image.count();
     let _ = arch.memory();
     let _ = arch.register(0);
     runs_from_a_state_end();
-    let counted = counted_from(alloc, image, arch, seed, most)?;
+    let counted = counted_from(alloc, image, arch, conditions, most)?;
     counted_answer(alloc, &counted, show)
 }
 
-/// Goes on with a machine of an image whose trace is empty, on the grid of a seed and for as many blocks as are
-/// allowed, and tells how its run ended and what is shown. Want of memory is the only error. Its statistics are
+/// Goes on with a machine of an image whose trace is empty, on the grid under these conditions and for as many blocks
+/// as are allowed, and tells how its run ended and what is shown. Want of memory is the only error. Its statistics are
 /// counted where they are shown, and else events are logged where those of some cycles are.
 pub fn run_from(
     alloc: Global,
     image: CheckedImage,
     arch: Arch,
-    seed: u64,
+    conditions: Conditions,
     most: u32,
     show: Show,
 ) -> Result<Answer, AllocError>
@@ -296,14 +297,14 @@ pub fn run_from(
     requires next { arch.state.next < length image.blocks }
     requires room { most ≤ arch.budget }
     requires fresh { arch.state.trace ≡ [] }
-    ensures { IfOk result (λ answer. IsRunFrom image.blocks arch.state seed most show
-        answer.status answer.report.items) }
+    ensures { IfOk result
+        (λ answer. IsRunFrom image.blocks arch.state conditions most show answer.status answer.report.items) }
 {
     if show.stats {
-        return counted_run_from(alloc, image, arch, seed, most, show);
+        return counted_run_from(alloc, image, arch, conditions, most, show);
     }
     match show.events {
-        Some(cycles) => logged_run_from(alloc, image, arch, seed, most, show, cycles),
-        None => plain_from(alloc, image, arch, seed, most, show),
+        Some(cycles) => logged_run_from(alloc, image, arch, conditions, most, show, cycles),
+        None => plain_from(alloc, image, arch, conditions, most, show),
     }
 }

@@ -13,7 +13,7 @@ use crate::report::run_text;
 use base::Items;
 use block_atomic::Arch;
 use block_check::CheckedImage;
-use grid_cycle::{runs_from_a_state_end, runs_of_a_seed_end};
+use grid_cycle::{Conditions, runs_from_a_state_end, runs_from_the_start_end};
 use grid_log::Log;
 use grid_logged::Logged;
 use std::alloc::{AllocError, Global};
@@ -77,24 +77,25 @@ fn logged_answer(alloc: Global, run: &Logged, show: Show) -> Result<Answer, Allo
     let cost = run.cost();
     let report = run_text(alloc, ending, arch, measured, cost, show)?;
     Ok(Answer {
-        status: status_for(ending),
+        status: status_for(ending, arch.register(3)),
         report,
     })
 }
 
 // FROM THE START
 
-// Runs an image on an input, on the grid of a seed and for at most so many blocks, and logs the events of some cycles.
+// Runs an image on an input, on the grid under these conditions and for at most so many blocks, and logs the events of
+// some cycles.
 fn logged_image(
     alloc: Global,
     image: CheckedImage,
     input: Items<u8>,
-    seed: u64,
+    conditions: Conditions,
     most: u32,
     cycles: Cycles,
 ) -> Result<Logged, AllocError>
     requires some { 0 < most }
-    ensures ran { IfOk result (λ run. HasLogged image.blocks (start image.bytes input) most seed cycles.first
+    ensures ran { IfOk result (λ run. HasLogged image.blocks (start image.bytes input) most conditions cycles.first
         cycles.last most_events run.ending (grid_of run.grid) run.log) }
     ensures image { IfOk result (λ run. blocks_of run.grid ≡ image.blocks) }
     ensures kept { IfOk result (λ run. run.log.lost ≡ false) }
@@ -104,7 +105,7 @@ fn logged_image(
         alloc,
         image,
         input.into_vec(),
-        seed,
+        conditions,
         most,
         cycles.first,
         cycles.last,
@@ -120,7 +121,7 @@ pub fn logged_run(
     alloc: Global,
     image: CheckedImage,
     input: Items<u8>,
-    seed: u64,
+    conditions: Conditions,
     most: u32,
     show: Show,
     cycles: Cycles,
@@ -128,23 +129,24 @@ pub fn logged_run(
     requires some { 0 < most }
     requires plain { show.stats ≡ false }
     requires told { show.events ≡ Some cycles }
-    ensures { IfOk result (λ answer. IsRunFrom image.blocks (start image.bytes input) seed most show
+    ensures { IfOk result (λ answer. IsRunFrom image.blocks (start image.bytes input) conditions most show
         answer.status answer.report.items) }
 {
     let _ = image.count();
-    runs_of_a_seed_end();
-    let run = logged_image(alloc, image, input, seed, most, cycles)?;
+    runs_from_the_start_end();
+    let run = logged_image(alloc, image, input, conditions, most, cycles)?;
     logged_answer(alloc, &run, show)
 }
 
 // FROM A STATE
 
-// Goes on from a state on the grid of a seed, for at most so many blocks, and logs the events of some cycles.
+// Goes on from a state on the grid under these conditions, for at most so many blocks, and logs the events of some
+// cycles.
 fn logged_from(
     alloc: Global,
     image: CheckedImage,
     arch: Arch,
-    seed: u64,
+    conditions: Conditions,
     most: u32,
     cycles: Cycles,
 ) -> Result<Logged, AllocError>
@@ -152,8 +154,8 @@ fn logged_from(
     requires next { arch.state.next < length image.blocks }
     requires room { most ≤ arch.budget }
     requires fresh { arch.state.trace ≡ [] }
-    ensures ran { IfOk result (λ run. HasLogged image.blocks arch.state most seed cycles.first cycles.last most_events
-        run.ending (grid_of run.grid) run.log) }
+    ensures ran { IfOk result (λ run. HasLogged image.blocks arch.state most conditions cycles.first cycles.last
+        most_events run.ending (grid_of run.grid) run.log) }
     ensures image { IfOk result (λ run. blocks_of run.grid ≡ image.blocks) }
     ensures kept { IfOk result (λ run. run.log.lost ≡ false) }
 {
@@ -162,7 +164,7 @@ fn logged_from(
         alloc,
         image,
         arch,
-        seed,
+        conditions,
         most,
         cycles.first,
         cycles.last,
@@ -178,7 +180,7 @@ pub fn logged_run_from(
     alloc: Global,
     image: CheckedImage,
     arch: Arch,
-    seed: u64,
+    conditions: Conditions,
     most: u32,
     show: Show,
     cycles: Cycles,
@@ -189,13 +191,13 @@ pub fn logged_run_from(
     requires fresh { arch.state.trace ≡ [] }
     requires plain { show.stats ≡ false }
     requires told { show.events ≡ Some cycles }
-    ensures { IfOk result (λ answer. IsRunFrom image.blocks arch.state seed most show
-        answer.status answer.report.items) }
+    ensures { IfOk result
+        (λ answer. IsRunFrom image.blocks arch.state conditions most show answer.status answer.report.items) }
 {
     let _ = image.count();
     let _ = arch.memory();
     let _ = arch.register(0);
     runs_from_a_state_end();
-    let run = logged_from(alloc, image, arch, seed, most, cycles)?;
+    let run = logged_from(alloc, image, arch, conditions, most, cycles)?;
     logged_answer(alloc, &run, show)
 }

@@ -16,7 +16,7 @@ use crate::refusals::over;
 use base::Items;
 use block_atomic::Arch;
 use block_check::CheckedImage;
-use grid_cycle::Ran;
+use grid_cycle::{Conditions, Ran};
 use machine_save::{image_bytes, save_with};
 use std::alloc::{AllocError, Global};
 use trips_isa::Ending;
@@ -85,6 +85,6 @@ pub fn saved_run(
 {
     let _ = image.count();
     let part = part_of(alloc, &image)?;
-    let ran = ran_image(alloc, image, input, seed, at)?;
+    let ran = ran_image(alloc, image, input, Conditions::seeded(seed), at)?;
     saved_answer(alloc, &part, &ran)
 }

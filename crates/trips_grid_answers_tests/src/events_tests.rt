@@ -3,6 +3,7 @@
 
 use crate::making::{Program, STORED, checked, gone_on, saved, whole};
 use base::Items;
+use grid_cycle::Conditions;
 use std::alloc::{AllocError, Global};
 use std::process::Abort;
 use std::test::Fail;
@@ -10,8 +11,8 @@ use trips_grid_answers::run_image;
 use trips_report::Show;
 use trips_requests::Cycles;
 
-// A block of five operations, which ends the run. Nothing is fetched behind a system call.
-const FIVE: Program = (
+/// A block of five operations, which ends the run. Nothing is fetched behind a system call.
+pub const FIVE: Program = (
     "trips 1
 data 0
 block 0 mask 00000000
@@ -72,8 +73,8 @@ cycle 40 flush frame 3 cause end
 cycle 40 give up block 0
 ";
 
-// What is shown where the events of these cycles are.
-fn told(first: u64, last: u64) -> Show {
+/// What is shown where the events of these cycles are.
+pub fn told(first: u64, last: u64) -> Show {
     Show {
         regs: false,
         trace: false,
@@ -219,7 +220,7 @@ fn tells_a_million_events_and_that_there_are_more(rt: HostRuntime) -> Result<(),
         alloc,
         image,
         Items::new(alloc),
-        0,
+        Conditions::seeded(0),
         9_000,
         told(1, 1_000_000),
     )?;

@@ -1,11 +1,13 @@
 //! Tests of runs in two parts: saved behind each block, resumed under another seed, and save files with one change;
-//! and of the events that are told of runs.
+//! of the events that are told of runs; and of runs in other weathers and with another predictor.
 #![tactic(auto)]
 
 #[cfg(test)]
 mod again_tests;
 #[cfg(test)]
 mod changed_tests;
+#[cfg(test)]
+mod conditions_tests;
 #[cfg(test)]
 mod events_tests;
 #[cfg(test)]

@@ -5,6 +5,7 @@ ghost use Rattle.trips_isa.specs.Images.{FitsImage};
 
 use base::Items;
 use block_check::{CheckedImage, ImageRefusal};
+use grid_cycle::Conditions;
 use std::alloc::{AllocError, Global};
 use std::process::Abort;
 use std::test::Fail;
@@ -120,10 +121,26 @@ pub fn gone_on(
     show: Show,
 ) -> Result<Answer, Fail> {
     assert!(rt; most > 0, "a budget");
-    Ok(resumed(alloc, bytes, seed, most, show)?)
+    let conditions = Conditions::seeded(seed);
+    Ok(resumed(alloc, bytes, conditions, most, show)?)
 }
 
-/// The answer of the whole run.
+/// The answer of the whole run under some conditions.
+pub fn whole_under(
+    rt: &impl Abort,
+    alloc: Global,
+    program: Program,
+    conditions: Conditions,
+    most: u32,
+    show: Show,
+) -> Result<Answer, Fail> {
+    let image = checked(alloc, program.0)?;
+    let input = Items::from_slice(alloc, program.1)?;
+    assert!(rt; most > 0, "a budget");
+    Ok(run_image(alloc, image, input, conditions, most, show)?)
+}
+
+/// The answer of the whole run under the conditions of a seed.
 pub fn whole(
     rt: &impl Abort,
     alloc: Global,
@@ -132,8 +149,5 @@ pub fn whole(
     most: u32,
     show: Show,
 ) -> Result<Answer, Fail> {
-    let image = checked(alloc, program.0)?;
-    let input = Items::from_slice(alloc, program.1)?;
-    assert!(rt; most > 0, "a budget");
-    Ok(run_image(alloc, image, input, seed, most, show)?)
+    whole_under(rt, alloc, program, Conditions::seeded(seed), most, show)
 }

@@ -4,6 +4,8 @@ use Rattle.trips_outside.specs.Outside.{Rose}
 use Rattle.trips_outside.specs.inside.MemoryFiles.{held_by}
 use Rattle.trips_requests.specs.declared.commands.Command.{Command}
 use Rattle.trips_requests.specs.declared.commands.Command.TheVariants as command
+use Rattle.trips_requests.specs.declared.commands.PredictorStart.TheVariants as table
+use Rattle.trips_requests.specs.declared.commands.WeatherKind.TheVariants as weather
 use Rattle.trips_requests.specs.declared.status.Status.{Status}
 use Rattle.trips_requests.specs.inside.ExitCodes.{number_of}
 use Rattle.trips_requests.specs.Limits.{default_count}
@@ -26,7 +28,8 @@ abbrev pub input_name : List ℕ
 input_name = codes "input"
 
 -- the request of a command with a file, which has an input or none, takes so many blocks or steps, has so many turns
--- of a loop in a block, has a grid of this seed and shows this behind the ending of a run
+-- of a loop in a block, has a grid whose predictor and weather are of this seed, and shows this behind the ending of a
+-- run
 abbrev pub request_for : Command → List ℕ → Option (List ℕ) → ℕ → ℕ → ℕ → Show → Request
 request_for c name input most unroll seed show = planned (record {
   command = c;
@@ -40,6 +43,9 @@ request_for c name input most unroll seed show = planned (record {
   place = None;
   unroll = unroll;
   seed = seed;
+  predictor = table.Seeded;
+  weather = weather.Seeded;
+  frames = 8;
   regs = show.regs;
   trace = show.trace;
   cycles = show.cycles;

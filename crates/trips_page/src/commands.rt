@@ -9,7 +9,7 @@ ghost use Rattle.trips_page.specs.Told.{IsTold, c_name, evaluation_of, image_nam
 
 use crate::answering::answer;
 use std::alloc::Global;
-use trips_requests::{Asked, Command, DEFAULT_COUNT};
+use trips_requests::{Asked, Command, DEFAULT_COUNT, PredictorStart, WeatherKind};
 
 // The request of a command without an input.
 fn work(command: Command, file: &'static str, unroll: u8) -> Asked<'static>
@@ -28,6 +28,9 @@ fn work(command: Command, file: &'static str, unroll: u8) -> Asked<'static>
         place: None,
         unroll,
         seed: 0,
+        predictor: PredictorStart::Seeded,
+        weather: WeatherKind::Seeded,
+        frames: 8,
         regs: false,
         trace: false,
         cycles: false,
@@ -66,6 +69,9 @@ pub extern "C" fn page_run(
         place: None,
         unroll,
         seed,
+        predictor: PredictorStart::Seeded,
+        weather: WeatherKind::Seeded,
+        frames: 8,
         regs,
         trace,
         cycles,
@@ -104,6 +110,9 @@ pub extern "C" fn page_run_image(
         place: None,
         unroll: 1,
         seed,
+        predictor: PredictorStart::Seeded,
+        weather: WeatherKind::Seeded,
+        frames: 8,
         regs,
         trace,
         cycles,
@@ -137,6 +146,9 @@ pub extern "C" fn page_evaluate(
         place: None,
         unroll: 1,
         seed: 0,
+        predictor: PredictorStart::Seeded,
+        weather: WeatherKind::Seeded,
+        frames: 8,
         regs: false,
         trace: false,
         cycles: false,

@@ -15,8 +15,8 @@ use Rattle.trips_requests.specs.Options.{later_said, second_said, takes_file}
 use Rattle.trips_requests.specs.Verbs.{verb_named}
 use Rattle.trips_requests.specs.Requests.{Request, asked}
 use Rattle.trips_requests.specs.inside.Requests.{request_seen}
-use Rattle.trips_requests.specs.Requests.{events_said, functions_said, most_said, place_said, seed_said}
-use Rattle.trips_requests.specs.Requests.{unroll_said}
+use Rattle.trips_requests.specs.Requests.{events_said, frames_said, functions_said, most_said, place_said}
+use Rattle.trips_requests.specs.Requests.{predictor_said, seed_said, unroll_said, weather_said}
 use Rattle.trips_requests.specs.Requests.{request_counted, request_of_files, request_taken}
 use Rattle.trips_requests.specs.Requests.{request_of_file, request_with, request_of, request_by}
 
@@ -112,8 +112,11 @@ some_file k name options second third fourth =
     bind _ (place_said name options.place) (λ place.
     bind_with most_turns _ (unroll_said name options.unroll) (turns_said name options.unroll) (λ unroll turns.
     bind _ (events_said options.stats options.events) (λ events.
-    last (request_counted k name options second third fourth functions most place unroll events)
-    (seed_said options.seed) (λ seed. (some, turns.0)))))))
+    bind _ (seed_said options.seed) (λ seed.
+    bind _ (predictor_said options.predictor) (λ predictor.
+    bind _ (weather_said options.weather) (λ weather.
+    last (request_counted k name options second third fourth functions most place unroll events seed predictor weather)
+    (frames_said options.frames) (λ frames. (some, turns.0))))))))))
 
 some_taken : (k : Verb) (name : Text) (options : Options) → IfSome (request_taken k name options) HasSome
 some_taken k name options = go (takes_file k name)

@@ -1,8 +1,10 @@
 -- Words and their requests, worked by hand from the README of this crate.
 use Rattle.std.proofs.Common.{◌≡◌, refl, [], ◌∷◌, Some, None, codes, true, false}
 use Rattle.trips_requests.specs.declared.commands.Command.TheVariants as command
+use Rattle.trips_requests.specs.declared.commands.PredictorStart.TheVariants as exits
+use Rattle.trips_requests.specs.declared.commands.WeatherKind.TheVariants as holds
 use Rattle.trips_requests.specs.Verbs.{verb_named}
-use Rattle.trips_requests.specs.Requests.{Request, asked}
+use Rattle.trips_requests.specs.Requests.{Request, asked, predictor_named, weather_named}
 
 -- a run of a.c with nothing asked besides
 abbrev plain : Request
@@ -18,6 +20,9 @@ plain = record {
   place = None;
   unroll = 1;
   seed = 0;
+  predictor = exits.Seeded;
+  weather = holds.Seeded;
+  frames = 8;
   regs = false;
   trace = false;
   cycles = false;
@@ -337,3 +342,64 @@ drawn_too_far = refl
 pub drawn_with_seed : asked (codes "draw" ∷ codes "a.c" ∷ codes "1" ∷ codes "--seed=1" ∷ []) ≡ None
 unfolding verb_named
 drawn_with_seed = refl
+
+-- the predictor's table and the weather are said by a word each, of a run, of the benchmark and of a run that goes on
+pub machine_is : asked (codes "run" ∷ codes "a.c" ∷ codes "--weather=calm" ∷ codes "--predictor" ∷ codes "zero" ∷ [])
+    ≡ Some (record plain { predictor = exits.Zero; weather = holds.Calm })
+unfolding verb_named predictor_named weather_named
+machine_is = refl
+
+pub worst_is : asked (codes "resume" ∷ codes "a.c" ∷ codes "--weather" ∷ codes "worst" ∷ [])
+    ≡ Some (record plain { command = command.Resume; weather = holds.Worst })
+unfolding verb_named weather_named
+worst_is = refl
+
+pub bench_seeded : asked (codes "bench" ∷ codes "9" ∷ codes "--weather=seeded" ∷ codes "--predictor=seeded" ∷ [])
+    ≡ Some (record plain { file = codes "9"; functions = Some 9 })
+unfolding verb_named predictor_named weather_named
+bench_seeded = refl
+
+pub no_weather : asked (codes "run" ∷ codes "a.c" ∷ codes "--weather=zero" ∷ []) ≡ None
+unfolding verb_named weather_named
+no_weather = refl
+
+pub no_predictor : asked (codes "run" ∷ codes "a.c" ∷ codes "--predictor=calm" ∷ []) ≡ None
+unfolding verb_named predictor_named
+no_predictor = refl
+
+pub no_word : asked (codes "run" ∷ codes "a.c" ∷ codes "--weather=" ∷ []) ≡ None
+unfolding verb_named weather_named
+no_word = refl
+
+pub saved_in_no_weather : asked (codes "save" ∷ codes "a.c" ∷ codes "25" ∷ codes "--weather=calm" ∷ []) ≡ None
+unfolding verb_named
+saved_in_no_weather = refl
+
+pub four_in_no_weather : asked (codes "four" ∷ codes "a" ∷ codes "b" ∷ codes "c" ∷ codes "d"
+    ∷ codes "--weather=calm" ∷ []) ≡ None
+unfolding verb_named
+four_in_no_weather = refl
+
+-- how many frames may be in flight is said of the same three commands, from 1 to 8
+pub one_frame : asked (codes "run" ∷ codes "a.c" ∷ codes "--frames" ∷ codes "1" ∷ [])
+    ≡ Some (record plain { frames = 1 })
+unfolding verb_named
+one_frame = refl
+
+pub eight_frames : asked (codes "resume" ∷ codes "a.c" ∷ codes "--frames=8" ∷ [])
+    ≡ Some (record plain { command = command.Resume })
+unfolding verb_named
+eight_frames = refl
+
+pub no_frames : asked (codes "run" ∷ codes "a.c" ∷ codes "--frames=0" ∷ []) ≡ None
+unfolding verb_named
+no_frames = refl
+
+pub nine_frames : asked (codes "bench" ∷ codes "9" ∷ codes "--frames=9" ∷ []) ≡ None
+unfolding verb_named
+nine_frames = refl
+
+pub four_of_two_frames : asked (codes "four" ∷ codes "a" ∷ codes "b" ∷ codes "c" ∷ codes "d"
+    ∷ codes "--frames=2" ∷ []) ≡ None
+unfolding verb_named
+four_of_two_frames = refl

@@ -19,3 +19,4 @@ written_so these those old new cut status.Budget so w = (w.0, so status.Budget w
 written_so these those old new cut status.StackFull so w = (w.0, so status.StackFull w.0 w.1, w.2)
 written_so these those old new cut status.Trap so w = (w.0, so status.Trap w.0 w.1, w.2)
 written_so these those old new cut status.Undefined so w = (w.0, so status.Undefined w.0 w.1, w.2)
+written_so these those old new cut status.Aborted so w = (w.0, so status.Aborted w.0 w.1, w.2)

@@ -4,5 +4,6 @@ pub mod Options
 pub mod Verbs
 pub mod Requests
 pub mod Texts
+pub mod Results
 pub mod Table
 pub mod inside

@@ -20,6 +20,10 @@ most_seed = 18446744073709551615
 abbrev pub most_turns : ℕ
 most_turns = 8
 
+-- the frames that there are, all of which may be in flight where no fewer are asked for
+abbrev pub most_frames : ℕ
+most_frames = 8
+
 -- the blocks or steps that are taken where none are asked for
 abbrev pub default_count : ℕ
 default_count = 1000000

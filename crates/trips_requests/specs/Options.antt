@@ -13,12 +13,13 @@ use Rattle.trips_requests.specs.Words.{third_name, value_said}
 abbrev pub run_options : List Named
 run_options = valued (codes "input") ∷ valued (codes "blocks") ∷ valued (codes "place") ∷ valued (codes "unroll")
     ∷ valued (codes "seed") ∷ flag (codes "regs") ∷ flag (codes "trace") ∷ flag (codes "cycles")
-    ∷ flag (codes "stats") ∷ valued (codes "events") ∷ []
+    ∷ flag (codes "stats") ∷ valued (codes "events") ∷ valued (codes "predictor") ∷ valued (codes "weather")
+    ∷ valued (codes "frames") ∷ []
 
 -- those of `bench`
 abbrev pub bench_options : List Named
 bench_options = valued (codes "blocks") ∷ valued (codes "place") ∷ valued (codes "unroll") ∷ valued (codes "seed")
-    ∷ flag (codes "cycles") ∷ []
+    ∷ flag (codes "cycles") ∷ valued (codes "predictor") ∷ valued (codes "weather") ∷ valued (codes "frames") ∷ []
 
 -- those of `eval`
 abbrev pub eval_options : List Named
@@ -43,7 +44,8 @@ save_options = valued (codes "input") ∷ valued (codes "seed") ∷ []
 -- those of `resume`
 abbrev pub resume_options : List Named
 resume_options = valued (codes "blocks") ∷ valued (codes "seed") ∷ flag (codes "regs") ∷ flag (codes "trace")
-    ∷ flag (codes "cycles") ∷ flag (codes "stats") ∷ valued (codes "events") ∷ []
+    ∷ flag (codes "cycles") ∷ flag (codes "stats") ∷ valued (codes "events") ∷ valued (codes "predictor")
+    ∷ valued (codes "weather") ∷ valued (codes "frames") ∷ []
 
 -- those of `four`
 abbrev pub four_options : List Named
@@ -124,6 +126,12 @@ pub record Options : Type 0 where
   -- how many turns of a loop a block may hold
   pub unroll : Option Text
   pub seed : Option Text
+  -- what the predictor's table holds as a run begins
+  pub predictor : Option Text
+  -- for how long parcels are held
+  pub weather : Option Text
+  -- how many frames may be in flight
+  pub frames : Option Text
   pub regs : Bool
   pub trace : Bool
   pub cycles : Bool
@@ -147,6 +155,9 @@ options_said k said = record {
   place = value_said (codes "place") said;
   unroll = value_said (codes "unroll") said;
   seed = value_said (codes "seed") said;
+  predictor = value_said (codes "predictor") said;
+  weather = value_said (codes "weather") said;
+  frames = value_said (codes "frames") said;
   regs = is_on (value_said (codes "regs") said);
   trace = is_on (value_said (codes "trace") said);
   cycles = is_on (value_said (codes "cycles") said);

@@ -1,12 +1,17 @@
 -- Which request the words of a command line make (README.md of this crate).
 use Rattle.std.specs.Prelude.{ℕ, ◌+◌, ◌==◌, nat_le, Bool, ◌&&◌, if◌then◌else◌, List, [], ◌∷◌}
-use Rattle.std.specs.Prelude.{Option, None, Some, option_map, option_and_then}
+use Rattle.std.specs.Prelude.{Option, None, Some, codes, option_map, option_and_then}
 use Rattle.std.specs.List.{after_first, before_first}
+use Rattle.std.specs.Str.{bytes_eq}
 use Rattle.trips_requests.specs.declared.commands.Command.{Command}
 use Rattle.trips_requests.specs.declared.commands.Cycles.{Cycles}
+use Rattle.trips_requests.specs.declared.commands.PredictorStart.{PredictorStart}
+use Rattle.trips_requests.specs.declared.commands.PredictorStart.TheVariants as exits
+use Rattle.trips_requests.specs.declared.commands.WeatherKind.{WeatherKind}
+use Rattle.trips_requests.specs.declared.commands.WeatherKind.TheVariants as holds
 use Rattle.trips_requests.specs.declared.commands.Verb.{Verb}
 use Rattle.trips_requests.specs.declared.commands.Verb.TheVariants as verb
-use Rattle.trips_requests.specs.Limits.{most_cycle, most_drawn, most_functions, most_seed, most_turns}
+use Rattle.trips_requests.specs.Limits.{most_cycle, most_drawn, most_frames, most_functions, most_seed, most_turns}
 use Rattle.trips_requests.specs.Limits.{number_to, number_within}
 use Rattle.trips_requests.specs.Options.{Options, count_of, is_c_name, later_said, options_of, options_said}
 use Rattle.trips_requests.specs.Options.{places_of, second_said, takes_file}
@@ -16,7 +21,8 @@ use Rattle.trips_requests.specs.Words.{Text, Said, file_name, value_said, words_
 -- What is asked for: a command, its file and the others if it has more, or how many functions the benchmark's text
 -- has that is run in place of it, the name of the input if there is one, how many blocks or steps it may take, the
 -- number by which compiled blocks are placed if one is said, how many turns of a loop one of these may hold, the seed
--- of the grid, whether registers, trace, counts and statistics are shown, and of which cycles the events are.
+-- of the grid, what its predictor and its weather are, how many frames may be in flight, whether registers, trace,
+-- counts and statistics are shown, and of which cycles the events are.
 pub record Request : Type 0 where
   pub command : Command
   pub file : Text
@@ -35,6 +41,12 @@ pub record Request : Type 0 where
   -- how many turns of a loop a compiled block may hold
   pub unroll : ℕ
   pub seed : ℕ
+  -- what the predictor's table holds as a run begins
+  pub predictor : PredictorStart
+  -- for how long parcels are held
+  pub weather : WeatherKind
+  -- how many frames may be in flight
+  pub frames : ℕ
   -- what is shown behind the ending of a run: registers, committed blocks with their exits, the grid's counts, and its
   -- statistics
   pub regs : Bool
@@ -68,6 +80,32 @@ abbrev pub seed_said : Option Text → Option ℕ
 seed_said None = Some 0
 seed_said (Some word) = number_within most_seed word
 
+-- what a word says of the predictor's table
+unfoldable pub predictor_named : Text → Option PredictorStart
+predictor_named word = if bytes_eq word (codes "seeded") then Some exits.Seeded
+    else if bytes_eq word (codes "zero") then Some exits.Zero else None
+
+-- what the predictor's table holds as a run begins: the seed's exits where nothing is said
+abbrev pub predictor_said : Option Text → Option PredictorStart
+predictor_said None = Some exits.Seeded
+predictor_said (Some word) = predictor_named word
+
+-- what a word says of the weather
+unfoldable pub weather_named : Text → Option WeatherKind
+weather_named word = if bytes_eq word (codes "seeded") then Some holds.Seeded
+    else if bytes_eq word (codes "calm") then Some holds.Calm
+    else if bytes_eq word (codes "worst") then Some holds.Worst else None
+
+-- for how long parcels are held: as the seed draws it where nothing is said
+abbrev pub weather_said : Option Text → Option WeatherKind
+weather_said None = Some holds.Seeded
+weather_said (Some word) = weather_named word
+
+-- how many frames may be in flight: all where nothing is said
+abbrev pub frames_said : Option Text → Option ℕ
+frames_said None = Some most_frames
+frames_said (Some word) = number_to most_frames word
+
 -- the cycles from one to another, of which the first is 1 at least and the last no cycle before it
 abbrev pub cycles_from : ℕ → ℕ → Option Cycles
 cycles_from first last =
@@ -91,34 +129,41 @@ functions_said other word = Some None
 
 -- the request of a command, of its file or its number of functions, of its numbers and of its options
 abbrev pub request_counted : Verb → Text → Options → Option Text → Option Text → Option Text → Option ℕ → ℕ
-    → Option ℕ → ℕ → Option Cycles → ℕ → Request
-request_counted k name options second third fourth functions most place unroll events seed = record {
-  command = command_of k;
-  file = name;
-  second = second;
-  third = third;
-  fourth = fourth;
-  functions = functions;
-  input = options.input;
-  most = most;
-  place = place;
-  unroll = unroll;
-  seed = seed;
-  regs = options.regs;
-  trace = options.trace;
-  cycles = options.cycles;
-  stats = options.stats;
-  events = events;
-}
+    → Option ℕ → ℕ → Option Cycles → ℕ → PredictorStart → WeatherKind → ℕ → Request
+request_counted k name options second third fourth functions most place unroll events seed predictor weather frames =
+    record {
+      command = command_of k;
+      file = name;
+      second = second;
+      third = third;
+      fourth = fourth;
+      functions = functions;
+      input = options.input;
+      most = most;
+      place = place;
+      unroll = unroll;
+      seed = seed;
+      predictor = predictor;
+      weather = weather;
+      frames = frames;
+      regs = options.regs;
+      trace = options.trace;
+      cycles = options.cycles;
+      stats = options.stats;
+      events = events;
+    }
 
 -- the request of a command, of its files or its number of functions, and of its options: the numbers are in
 -- their ranges
 abbrev pub request_of_file : Verb → Text → Options → Option Text → Option Text → Option Text → Option Request
 request_of_file k name options second third fourth =
     option_and_then (λ functions. option_and_then (λ most. option_and_then (λ place. option_and_then (λ unroll.
-    option_and_then (λ events. option_map
-    (request_counted k name options second third fourth functions most place unroll events)
-    (seed_said options.seed)) (events_said options.stats options.events))
+    option_and_then (λ events. option_and_then (λ seed. option_and_then (λ predictor. option_and_then (λ weather.
+    option_map
+    (request_counted k name options second third fourth functions most place unroll events seed predictor weather)
+    (frames_said options.frames)) (weather_said options.weather)) (predictor_said options.predictor))
+    (seed_said options.seed))
+    (events_said options.stats options.events))
     (unroll_said name options.unroll)) (place_said name options.place)) (most_said k options.number))
     (functions_said k name)
 

@@ -7,14 +7,16 @@ ghost use Rattle.trips_requests.specs.Options.{takes_file};
 ghost use Rattle.trips_requests.specs.inside.Options.{options_seen};
 ghost use Rattle.trips_requests.specs.Verbs.{command_of, verb_named};
 ghost use Rattle.trips_requests.specs.Requests.{most_said};
-ghost use Rattle.trips_requests.specs.Requests.{cycles_from, cycles_said, events_said, functions_said, place_said};
-ghost use Rattle.trips_requests.specs.Requests.{seed_said, unroll_said};
+ghost use Rattle.trips_requests.specs.Requests.{cycles_from, cycles_said, events_said, frames_said, functions_said};
+ghost use Rattle.trips_requests.specs.Requests.{place_said, predictor_named, predictor_said, seed_said, unroll_said};
+ghost use Rattle.trips_requests.specs.Requests.{weather_named, weather_said};
 ghost use Rattle.trips_requests.specs.Requests.{request_of_file, request_of_files, request_taken, request_with};
 ghost use Rattle.trips_requests.specs.inside.Requests.{request_seen};
 
 use crate::commands::{
     Asked, Command, Cycles, DEFAULT_COUNT, DEFAULT_RECORDED, MOST_COUNT, MOST_CYCLE, MOST_DRAWN,
-    MOST_FUNCTIONS, MOST_RECORDED, MOST_SEED, MOST_TURNS, Verb,
+    MOST_FRAMES, MOST_FUNCTIONS, MOST_RECORDED, MOST_SEED, MOST_TURNS, PredictorStart, Verb,
+    WeatherKind,
 };
 use crate::number::{number, number_within};
 
@@ -32,6 +34,12 @@ pub struct FoundOptions<'a> {
     /// how many turns of a loop a block may hold
     pub unroll: Option<&'a str>,
     pub seed: Option<&'a str>,
+    /// what the predictor's table holds as a run begins
+    pub predictor: Option<&'a str>,
+    /// for how long parcels are held
+    pub weather: Option<&'a str>,
+    /// how many frames may be in flight
+    pub frames: Option<&'a str>,
     pub regs: bool,
     pub trace: bool,
     pub cycles: bool,
@@ -264,6 +272,69 @@ fn seed_said(word: Option<&str>) -> Option<u64>
     }
 }
 
+// What a word says of the predictor's table.
+#[tactic(auto, unfolding(crate::specs::Requests::predictor_named))]
+fn predictor_named(word: &str) -> Option<PredictorStart>
+    ensures { result ≡ predictor_named word.now }
+{
+    if word == "seeded" {
+        Some(PredictorStart::Seeded)
+    } else if word == "zero" {
+        Some(PredictorStart::Zero)
+    } else {
+        None
+    }
+}
+
+// What a word says of the weather.
+#[tactic(auto, unfolding(crate::specs::Requests::weather_named))]
+fn weather_named(word: &str) -> Option<WeatherKind>
+    ensures { result ≡ weather_named word.now }
+{
+    if word == "seeded" {
+        Some(WeatherKind::Seeded)
+    } else if word == "calm" {
+        Some(WeatherKind::Calm)
+    } else if word == "worst" {
+        Some(WeatherKind::Worst)
+    } else {
+        None
+    }
+}
+
+// What the predictor's table holds as a run begins, by the word that is said, and the seed's exits where none is.
+fn predictor_said(word: Option<&str>) -> Option<PredictorStart>
+    ensures { result ≡ predictor_said (option_copied word.entry) }
+{
+    match word {
+        None => Some(PredictorStart::Seeded),
+        Some(word) => predictor_named(word),
+    }
+}
+
+// For how long parcels are held, by the word that is said, and as the seed draws it where none is.
+fn weather_said(word: Option<&str>) -> Option<WeatherKind>
+    ensures { result ≡ weather_said (option_copied word.entry) }
+{
+    match word {
+        None => Some(WeatherKind::Seeded),
+        Some(word) => weather_named(word),
+    }
+}
+
+// How many frames may be in flight, and all where nothing is said.
+fn frames_said(word: Option<&str>) -> Option<u8>
+    ensures { result ≡ frames_said (option_copied word.entry) }
+{
+    match word {
+        None => Some(8),
+        Some(word) => {
+            let frames = number(word.as_bytes(), MOST_FRAMES)?;
+            Some(frames as u8)
+        }
+    }
+}
+
 // The cycles from one to another, where there are some.
 fn cycles_from(first: u64, last: u64) -> Option<Cycles>
     ensures { result ≡ cycles_from first last }
@@ -325,6 +396,9 @@ fn request_of_file<'a>(
     let unroll = unroll_said(file, options.unroll)?;
     let events = events_said(options.stats, options.events)?;
     let seed = seed_said(options.seed)?;
+    let predictor = predictor_said(options.predictor)?;
+    let weather = weather_said(options.weather)?;
+    let frames = frames_said(options.frames)?;
     Some(Asked {
         command: command_of(command),
         file,
@@ -337,6 +411,9 @@ fn request_of_file<'a>(
         place,
         unroll,
         seed,
+        predictor,
+        weather,
+        frames,
         regs: options.regs,
         trace: options.trace,
         cycles: options.cycles,

@@ -60,6 +60,9 @@ pub const MOST_SEED: u64 = 18_446_744_073_709_551_615;
 /// The most turns of a loop that a block of a compiled program may be asked to hold.
 pub const MOST_TURNS: u32 = 8;
 
+/// How many frames there are, all of which may be in flight where no fewer are asked for.
+pub const MOST_FRAMES: u32 = 8;
+
 /// How many blocks or steps are taken where none are asked for.
 pub const DEFAULT_COUNT: u32 = 1_000_000;
 
@@ -81,6 +84,7 @@ pub fn constants_are_the_definitions()
     ensures count { MOST_COUNT ≡ limits.most_count }
     ensures seed { MOST_SEED ≡ limits.most_seed }
     ensures turns { MOST_TURNS ≡ limits.most_turns }
+    ensures frames { MOST_FRAMES ≡ limits.most_frames }
     ensures default { DEFAULT_COUNT ≡ limits.default_count }
     ensures recorded { MOST_RECORDED ≡ limits.most_recorded }
     ensures default_recorded { DEFAULT_RECORDED ≡ limits.default_recorded }
@@ -95,6 +99,26 @@ pub struct Cycles {
     pub first: u64,
     /// no cycle before the first
     pub last: u64,
+}
+
+/// What the table of the predictor holds as a run begins.
+#[derive(Clone, Copy, Debug, PartialEq, Eq)]
+pub enum PredictorStart {
+    /// the exits that the seed draws
+    Seeded,
+    /// the exit 0 everywhere
+    Zero,
+}
+
+/// For how long parcels are held in a run.
+#[derive(Clone, Copy, Debug, PartialEq, Eq)]
+pub enum WeatherKind {
+    /// as the seed draws it, 0 to 3 cycles each
+    Seeded,
+    /// none is held
+    Calm,
+    /// each for 3 cycles
+    Worst,
 }
 
 /// A request.
@@ -119,6 +143,12 @@ pub struct Asked<'a> {
     pub unroll: u8,
     /// the seed of the predictor and of the network's delays
     pub seed: u64,
+    /// what the predictor's table holds as a run begins
+    pub predictor: PredictorStart,
+    /// for how long parcels are held
+    pub weather: WeatherKind,
+    /// how many frames may be in flight, from 1 to 8
+    pub frames: u8,
     /// whether the registers are shown
     pub regs: bool,
     /// whether the committed blocks are shown

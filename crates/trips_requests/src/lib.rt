@@ -12,6 +12,7 @@ mod asking;
 mod commands;
 mod loading;
 mod number;
+mod results;
 mod status;
 mod texts;
 
@@ -19,9 +20,10 @@ pub use answer::{Answer, no_request, too_large, unread};
 pub use asking::{FoundOptions, counted, is_on, request_with, verb_named};
 pub use commands::{
     Asked, Command, Cycles, DEFAULT_COUNT, DEFAULT_RECORDED, MOST_COUNT, MOST_CYCLE, MOST_DRAWN,
-    MOST_FUNCTIONS, MOST_RECORDED, MOST_SEED, MOST_TURNS, Tool, Verb,
+    MOST_FUNCTIONS, MOST_RECORDED, MOST_SEED, MOST_TURNS, PredictorStart, Tool, Verb, WeatherKind,
     constants_are_the_definitions,
 };
 pub use loading::{Loaded, read};
+pub use results::{end_status, end_text};
 pub use status::{Status, exit_code};
 pub use texts::{on_line, output_text};

@@ -19,6 +19,7 @@ pub enum Status {
     Memory = 8,
     Trap = 9,
     Undefined = 10,
+    Aborted = 11,
 }
 
 /// What `main` ends with: the status as its number.

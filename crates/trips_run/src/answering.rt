@@ -16,7 +16,7 @@ ghost use Rattle.block_image.specs.Spelling.{ImageBytes};
 ghost use Rattle.block_check.specs.Faults.{IsGood};
 ghost use Rattle.machine_save.specs.Spelling.{SaveBytes};
 ghost use Rattle.trips_outside.specs.Outside.{Rose, Appended};
-ghost use Rattle.target_asm_spec.specs.Text.{TargetText};
+ghost use Rattle.target_file.specs.Files.{TargetFile};
 ghost use Rattle.trips_report.specs.declared.show.Show.{Show};
 ghost use Rattle.trips_answers.specs.Work.{Work};
 ghost use Rattle.trips_answers.specs.Work.{Run, Compile, Evaluate, Four};
@@ -26,6 +26,7 @@ ghost use Rattle.trips_answers.specs.declared.forms.FileForm.{FileForm};
 ghost use Rattle.trips_answers.specs.declared.forms.FileForm.TheVariants as form;
 ghost use Rattle.trips_answers.specs.Request.{Request, request_of};
 ghost use Rattle.trips_answers.specs.Settings.{settings_with};
+ghost use Rattle.trips_requests.specs.Results.{result_status};
 ghost use Rattle.trips_answers.specs.Asks.{IsServed, ended_report, nothing_shown};
 ghost use Rattle.trips_answers.specs.Fours.{AreImagesBy, AreTold, Program, further_of};
 ghost use Rattle.trips_answers.specs.Done.{CanBeRun};
@@ -77,9 +78,9 @@ pub fn answer_words<F: Files, K: Sink>(
 
     // Of an accepted program whose evaluation ends within n steps, its output and its result are reported with
     // whatever is asked for behind them: there is an image of the text, whose blocks are placed as it is asked for,
-    // and a run of it on the grid of the request's seed, of which all this is told: its committed blocks are the
-    // machine's, and it has made no more cycles than they cost. Where it has ended it is as the law of `grid_meaning`
-    // has it (`EndsAsMeant`).
+    // and a run of it on the grid under the request's conditions (its seed, its predictor and its weather), of which
+    // all this is told: its committed blocks are the machine's, and it has made no more cycles than they cost. Where it
+    // has ended it is as the law of `grid_meaning` has it (`EndsAsMeant`).
     ensures shown_headline { (most n : ℕ) (show : Show) (text input output : List ℕ) (value : ℤ)
         (steps : ℕ) (program : TypedProgram)
         → (call : IsServed (request_of words.now) (F.held files.old) Run form.Source most show text input
@@ -88,7 +89,7 @@ pub fn answer_words<F: Files, K: Sink>(
         → 16 * n + 16 ≤ most
         → (image : Image) × IsImageOf text call.asks.q.placing call.asks.q.unroll image
         × ((runs image.blocks (start image.bytes input) most).1 ≡ stepped.Ended)
-        × (told : IsReported image input (settings_with call.asks.q most show) Status.Ended
+        × (told : IsReported image input (settings_with call.asks.q most show) (result_status value)
         (ended_report output value) result (K.written sink.old) (K.written sink.new))
         × EndsAsMeant image input most [] output value ending.Ended told.1.grid }
 
@@ -112,7 +113,7 @@ pub fn answer_words<F: Files, K: Sink>(
         → IsAccepted text program
         → (image : Image) × IsImageOf text call.asks.q.placing call.asks.q.unroll image
         × let run = runs image.blocks (start image.bytes input) most in
-        (result ≡ status_of (ending_of run.1 run.0.next))
+        (result ≡ status_of (ending_of run.1 run.0.next) run.0)
         × Appended (K.written sink.old) (K.written sink.new)
         (run_report (ending_of run.1 run.0.next) run.0) }
     ensures shown_text_run { (most : ℕ) (show : Show) (text input : List ℕ) (program : TypedProgram)
@@ -121,38 +122,38 @@ pub fn answer_words<F: Files, K: Sink>(
         → IsAccepted text program
         → (image : Image) × IsImageOf text call.asks.q.placing call.asks.q.unroll image
         × let run = runs image.blocks (start image.bytes input) most in
-        IsReported image input (settings_with call.asks.q most show) (status_of (ending_of run.1 run.0.next))
+        IsReported image input (settings_with call.asks.q most show) (status_of (ending_of run.1 run.0.next) run.0)
         (run_report (ending_of run.1 run.0.next) run.0) result (K.written sink.old) (K.written sink.new) }
 
     // The same of the run of an image of good blocks, and of that of a target text: the counts are those of a grid
-    // that comes by exactly as many eager cycles from the stated start of the request's seed. Where the statistics are
-    // shown, each number is how many of the notes of these very cycles and of their end count for it, while that has
-    // room in 64 bits (`statistics` of `IsCountedFrom`). Where the events of some cycles are shown, their lines are
-    // those of the notes of these very cycles (`events`); so too above and below.
+    // that comes by exactly as many eager cycles from the stated start under the request's conditions. Where the
+    // statistics are shown, each number is how many of the notes of these very cycles and of their end count for it,
+    // while that has room in 64 bits (`statistics` of `IsCountedFrom`). Where the events of some cycles are shown,
+    // their lines are those of the notes of these very cycles (`events`); so too above and below.
     ensures shown_image_run { (most : ℕ) (show : Show) (bytes input : List ℕ) (image : Image)
         → (call : IsServed (request_of words.now) (F.held files.old) Run form.Image most show bytes input
         (F.faults files.old) (F.faults files.new) (K.faults sink.old) (K.faults sink.new) result)
         → ImageBytes image bytes → All IsGood image.blocks
         → let run = runs image.blocks (start image.bytes input) most in
-        IsReported image input (settings_with call.asks.q most show) (status_of (ending_of run.1 run.0.next))
+        IsReported image input (settings_with call.asks.q most show) (status_of (ending_of run.1 run.0.next) run.0)
         (run_report (ending_of run.1 run.0.next) run.0) result (K.written sink.old) (K.written sink.new) }
     ensures target_run { (most : ℕ) (show : Show) (text input : List ℕ) (image : Image)
         → (call : IsServed (request_of words.now) (F.held files.old) Run form.Target most show text input
         (F.faults files.old) (F.faults files.new) (K.faults sink.old) (K.faults sink.new) result)
-        → TargetText image text → All IsGood image.blocks
+        → TargetFile image text → All IsGood image.blocks
         → let run = runs image.blocks (start image.bytes input) most in
-        IsReported image input (settings_with call.asks.q most show) (status_of (ending_of run.1 run.0.next))
+        IsReported image input (settings_with call.asks.q most show) (status_of (ending_of run.1 run.0.next) run.0)
         (run_report (ending_of run.1 run.0.next) run.0) result (K.written sink.old) (K.written sink.new) }
 
     // The run from the state that bytes save is reported so, with the counts of a grid that comes by exactly as many
-    // eager cycles from the start of the request's seed in that state.
+    // eager cycles from the start under the request's conditions in that state.
     ensures shown_resumed { (most : ℕ) (show : Show) (bytes input : List ℕ) (image : Image) (t : State)
         → (call : IsServed (request_of words.now) (F.held files.old) Run form.Saved most show bytes input
         (F.faults files.old) (F.faults files.new) (K.faults sink.old) (K.faults sink.new) result)
         → SaveBytes image t bytes
         → let run = runs image.blocks (record t { trace = [] }) most in
         IsReportedFrom image.blocks (record t { trace = [] }) (settings_with call.asks.q most show)
-        (status_of (ending_of run.1 run.0.next)) (run_report (ending_of run.1 run.0.next) run.0)
+        (status_of (ending_of run.1 run.0.next) run.0) (run_report (ending_of run.1 run.0.next) run.0)
         result (K.written sink.old) (K.written sink.new) }
 
     // The bytes of an image of the text are written, and nothing else.
@@ -205,10 +206,10 @@ pub fn answer_words<F: Files, K: Sink>(
     ensures undefined_only { result ≡ Status.Undefined
         → EvalEnds (request_of words.now) (F.held files.old) result }
     ensures eval_ends { (q : Request) → request_of words.now ≡ Some q → q.work ≡ Evaluate
-        → IsOneOf result (Status.Ended ∷ Status.Budget ∷ Status.StackFull ∷ Status.Undefined ∷ [])
+        → IsOneOf result (Status.Ended ∷ Status.Budget ∷ Status.StackFull ∷ Status.Undefined ∷ Status.Aborted ∷ [])
         → EndsAs (F.held files.old) q result }
     ensures run_ends { (q : Request) → request_of words.now ≡ Some q → q.work ≡ Run
-        → IsOneOf result (Status.Ended ∷ Status.Budget ∷ Status.StackFull ∷ Status.Trap ∷ [])
+        → IsOneOf result (Status.Ended ∷ Status.Budget ∷ Status.StackFull ∷ Status.Trap ∷ Status.Aborted ∷ [])
         → EndsAs (F.held files.old) q result }
     ensures made_ends { (q : Request) → request_of words.now ≡ Some q → result ≡ Status.Ended
         → EndsAs (F.held files.old) q result }

@@ -22,6 +22,7 @@ ghost use Rattle.trips_four_answers.specs.Report.{TellsFour};
 ghost use Rattle.trips_answers.specs.declared.forms.FileForm.{FileForm};
 ghost use Rattle.trips_answers.specs.declared.forms.FileForm.TheVariants as form;
 ghost use Rattle.trips_answers.specs.Request.{Request, request_of};
+ghost use Rattle.trips_requests.specs.Results.{result_status};
 ghost use Rattle.trips_answers.specs.Asks.{IsServed, ended_report, nothing_shown};
 ghost use Rattle.trips_answers.specs.Report.{TellsRun, full_report};
 ghost use Rattle.trips_answers.specs.Done.{AreImagesFor, CanBeRun, IsImageIn, Makes, WritesImage};
@@ -49,7 +50,7 @@ pub fn trips_run<F: Files, K: Sink>(
         → IsServed (request_of words.now) (F.held files.old) Run form.Source most nothing_shown text input
         (F.faults files.old) (F.faults files.new) (K.faults sink.old) (K.faults sink.new) result
         → IsAccepted text program → eval program input n ≡ Done output value steps → 16 * n + 16 ≤ most
-        → (result ≡ Status.Ended)
+        → (result ≡ result_status value)
         × Appended (K.written sink.old) (K.written sink.new) (ended_report output value) }
 
     // Where its frames are too large within n steps, a full stack is reported, with the output so far.
@@ -177,12 +178,12 @@ pub fn trips_run<F: Files, K: Sink>(
 
     // A status that tells an end is that of the work with the bytes that the names hold, as far as they are told.
     ensures ends { IsOneOf result
-        (Status.Ended ∷ Status.Budget ∷ Status.StackFull ∷ Status.Trap ∷ Status.Undefined ∷ [])
+        (Status.Ended ∷ Status.Budget ∷ Status.StackFull ∷ Status.Trap ∷ Status.Undefined ∷ Status.Aborted ∷ [])
         → (q : Request) × (request_of words.now ≡ Some q) × EndsWork (F.held files.old) q result }
 
     // Of the run of a text it says what the evaluation comes to, whatever the budget.
     ensures text_ends { (q : Request) → request_of words.now ≡ Some q → q.work ≡ Run → q.form ≡ form.Source
-        → IsOneOf result (Status.Ended ∷ Status.Budget ∷ Status.StackFull ∷ Status.Trap ∷ [])
+        → IsOneOf result (Status.Ended ∷ Status.Budget ∷ Status.StackFull ∷ Status.Trap ∷ Status.Aborted ∷ [])
         → RunEndsAs (F.held files.old) q result }
 
     // And a result that is reported is that of the evaluation, or the evaluation is undefined.

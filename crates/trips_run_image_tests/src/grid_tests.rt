@@ -114,6 +114,8 @@ const SETTINGS: &[&[&str]] = &[
     &["--seed", "1", "--place", "1"],
     &["--seed", "2", "--place", "5"],
     &["--seed", "9", "--place", "5"],
+    &["--weather", "calm"],
+    &["--seed=3", "--weather=worst", "--predictor=zero"],
 ];
 
 fn assert_alike(

@@ -4,6 +4,8 @@
 #[cfg(test)]
 mod broken_tests;
 #[cfg(test)]
+mod comment_tests;
+#[cfg(test)]
 mod draw_tests;
 #[cfg(test)]
 mod four_tests;

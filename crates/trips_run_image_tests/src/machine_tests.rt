@@ -32,7 +32,34 @@ N[0] genu 3 W[0]
 N[1] scall 0
 ";
 
+// Register 3 has the least long at the end, which says that the program has aborted.
+const ABORTING: &str = "W[0] write G[0]
+W[1] write G[3]
+N[0] genu 3 W[0]
+N[1] genu 1 N[2,0]
+N[2] slli 63 W[1]
+N[3] scall 0
+";
+
+// It has the word behind that one.
+const NEAR_ABORTING: &str = "W[0] write G[0]
+W[1] write G[3]
+N[0] genu 3 W[0]
+N[1] genu 1 N[2,0]
+N[2] slli 63 N[4,0]
+N[3] scall 0
+N[4] addi 1 W[1]
+";
+
 const ROWS: &[Row] = &[
+    (ABORTING, &[], b"", Status::Aborted, "output 0\n\naborted\n"),
+    (
+        NEAR_ABORTING,
+        &[],
+        b"",
+        Status::Ended,
+        "output 0\n\nresult -9223372036854775807\n",
+    ),
     (
         FOREVER,
         &["--blocks", "100"],

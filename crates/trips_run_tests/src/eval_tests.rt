@@ -1,5 +1,6 @@
 //! `eval` on texts of C: outcomes, options, and inputs.
 use crate::tables::{COUNTED, DEEP, DEEPER, EDGES, ENDED, UNSET, WORDS};
+use crate::undefined_rows::TOLD;
 use std::alloc::{AllocError, Global};
 use std::process::Abort;
 use std::test::Fail;
@@ -70,15 +71,29 @@ pub(crate) fn returning(alloc: Global, expression: &str) -> Result<String, Alloc
     Ok(text)
 }
 
+// The text is undefined, and puts nothing out before.
+pub(crate) fn assert_undefined_text(
+    rt: &impl Abort,
+    alloc: Global,
+    text: &str,
+) -> Result<(), AllocError> {
+    let (status, written) = answer_of(alloc, &["eval", "a.c"], &[("a.c", text.as_bytes())])?;
+    assert_eq!(rt; status, Status::Undefined, "{text}");
+    assert!(rt; written.starts_with(b"output 0\n\nundefined: "), "{text}");
+    Ok(())
+}
+
 // The expression is undefined.
 fn assert_undefined(rt: &impl Abort, alloc: Global, expression: &str) -> Result<(), AllocError> {
     let text = returning(alloc, expression)?;
-    assert_reports(
-        rt,
-        alloc,
-        Status::Undefined,
-        &[(text.as_str(), "undefined\n")],
-    )
+    assert_undefined_text(rt, alloc, text.as_str())
+}
+
+// Each text is undefined for this reason, after this output.
+#[test]
+fn tells_why_it_is_undefined(rt: HostRuntime) -> Result<(), Fail> {
+    assert_reports(&rt, rt.alloc(), Status::Undefined, TOLD)?;
+    Ok(())
 }
 
 // The expression has a value.
@@ -115,7 +130,7 @@ fn is_undefined_just_outside_of_a_range(rt: HostRuntime) -> Result<(), Fail> {
 
 fn assert_unset(rt: &impl Abort, alloc: Global, rows: &[(&str, &str)]) -> Result<(), AllocError> {
     for (outside, inside) in rows {
-        assert_reports(rt, alloc, Status::Undefined, &[(*outside, "undefined\n")])?;
+        assert_undefined_text(rt, alloc, outside)?;
         assert_begins(rt, alloc, inside, b"", "output 0\n\nresult 3\nsteps ")?;
     }
     Ok(())

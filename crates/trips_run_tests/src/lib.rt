@@ -2,6 +2,8 @@
 #![tactic(auto)]
 
 #[cfg(test)]
+mod abort_tests;
+#[cfg(test)]
 mod bench_tests;
 #[cfg(test)]
 mod block_tests;
@@ -23,5 +25,7 @@ mod switch_tests;
 mod tables;
 #[cfg(test)]
 mod token_tests;
+#[cfg(test)]
+mod undefined_rows;
 #[cfg(test)]
 mod unroll_tests;

@@ -1,4 +1,5 @@
 //! `switch`, `short` and arrays with two sizes, on `run` and `eval`, and whole programs with them.
+use crate::eval_tests::assert_undefined_text;
 use crate::larger_rows::{LARGER_COUNTED, LARGER_UNDEFINED, SHORTS, TWO_SIZES};
 use crate::programs::{PROGRAMS, Program};
 use crate::switch_rows::SWITCHES;
@@ -67,7 +68,7 @@ fn counts_labels_and_indexes(rt: HostRuntime) -> Result<(), Fail> {
 
 fn assert_undefined(rt: &impl Abort, alloc: Global, texts: &[&str]) -> Result<(), AllocError> {
     for text in texts {
-        assert_evaluated(rt, alloc, Status::Undefined, &[(*text, "undefined\n")])?;
+        assert_undefined_text(rt, alloc, text)?;
     }
     Ok(())
 }

@@ -38,6 +38,9 @@ const MEASURED: Taken = Taken {
         predictions: 16,
         right: 10,
         in_flight: [1, 2, 3, 4, 5, 6, 7, 8, 4],
+        stations: [
+            31, 32, 33, 34, 35, 36, 37, 38, 39, 40, 41, 42, 43, 44, 45, 46,
+        ],
     },
 };
 
@@ -131,6 +134,23 @@ in_flight_5 6
 in_flight_6 7
 in_flight_7 8
 in_flight_8 4
+station_0_0 31
+station_0_1 32
+station_0_2 33
+station_0_3 34
+station_1_0 35
+station_1_1 36
+station_1_2 37
+station_1_3 38
+station_2_0 39
+station_2_1 40
+station_2_2 41
+station_2_3 42
+station_3_0 43
+station_3_1 44
+station_3_2 45
+station_3_3 46
+block 0 committed 1
 ";
 
 const RUNS: &[Run] = &[

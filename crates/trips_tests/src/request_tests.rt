@@ -4,7 +4,7 @@ use crate::requests::{PLAIN, assert_asked};
 use std::alloc::{AllocError, Global};
 use std::process::Abort;
 use std::test::Fail;
-use trips_requests::{Asked, Command, Cycles};
+use trips_requests::{Asked, Command, Cycles, PredictorStart, WeatherKind};
 
 /// Words, and the request that they make.
 type Row = (&'static [&'static str], Asked<'static>);
@@ -220,6 +220,33 @@ const ASKED: &[Row] = &[
             file: "s",
             regs: true,
             stats: true,
+            ..PLAIN
+        },
+    ),
+    (
+        &["run", "v.tasl", "--weather", "calm"],
+        Asked {
+            file: "v.tasl",
+            weather: WeatherKind::Calm,
+            ..PLAIN
+        },
+    ),
+    (
+        &["resume", "--predictor=zero", "s", "--weather=worst"],
+        Asked {
+            command: Command::Resume,
+            file: "s",
+            predictor: PredictorStart::Zero,
+            weather: WeatherKind::Worst,
+            ..PLAIN
+        },
+    ),
+    (&["run", "--frames=1", "a.c"], Asked { frames: 1, ..PLAIN }),
+    (
+        &["bench", "--predictor", "seeded", "9", "--weather", "seeded"],
+        Asked {
+            file: "9",
+            functions: Some(9),
             ..PLAIN
         },
     ),

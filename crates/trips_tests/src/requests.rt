@@ -2,7 +2,7 @@
 
 use std::alloc::{AllocError, Global};
 use std::process::Abort;
-use trips_requests::{Asked, Command};
+use trips_requests::{Asked, Command, PredictorStart, WeatherKind};
 use trips_words::request;
 
 /// A run of a.c with nothing asked besides.
@@ -18,6 +18,9 @@ pub const PLAIN: Asked<'static> = Asked {
     place: None,
     unroll: 1,
     seed: 0,
+    predictor: PredictorStart::Seeded,
+    weather: WeatherKind::Seeded,
+    frames: 8,
     regs: false,
     trace: false,
     cycles: false,
@@ -54,6 +57,8 @@ pub fn assert_asked(
     assert!(rt; asked.place == wanted.place, "{texts:?}");
     assert!(rt; asked.unroll == wanted.unroll, "{texts:?}");
     assert!(rt; asked.seed == wanted.seed, "{texts:?}");
+    assert!(rt; asked.predictor == wanted.predictor, "{texts:?}");
+    assert!(rt; asked.weather == wanted.weather, "{texts:?}");
     assert!(rt; asked.cycles == wanted.cycles, "{texts:?}");
     assert!(rt; asked.regs == wanted.regs, "{texts:?}");
     assert!(rt; asked.trace == wanted.trace, "{texts:?}");

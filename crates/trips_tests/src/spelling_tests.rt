@@ -4,7 +4,7 @@ use crate::requests::{PLAIN, assert_asked};
 use std::alloc::{AllocError, Global};
 use std::process::Abort;
 use std::test::Fail;
-use trips_requests::{Asked, Command, Cycles};
+use trips_requests::{Asked, Command, Cycles, PredictorStart, WeatherKind};
 
 // An option with its value, in each place and spelling.
 const BLOCKS: &[&[&str]] = &[
@@ -45,6 +45,20 @@ const BENCH_BLOCKS: &[&[&str]] = &[
     &["bench", "64", "--blocks=7"],
     &["bench", "--blocks=7", "64"],
     &["bench", "--blocks=7", "--", "64"],
+];
+
+const PREDICTOR: &[&[&str]] = &[
+    &["run", "a.c", "--predictor", "zero"],
+    &["run", "--predictor", "zero", "a.c"],
+    &["run", "a.c", "--predictor=zero"],
+    &["run", "--predictor=zero", "--", "a.c"],
+];
+
+const WEATHER: &[&[&str]] = &[
+    &["run", "a.c", "--weather", "worst"],
+    &["run", "--weather", "worst", "a.c"],
+    &["run", "a.c", "--weather=worst"],
+    &["run", "--weather=worst", "--", "a.c"],
 ];
 
 const PLACE: &[&[&str]] = &[
@@ -205,6 +219,20 @@ const SPELLINGS: &[(&[&[&str]], Asked<'static>)] = &[
         },
     ),
     (SEED, Asked { seed: 7, ..PLAIN }),
+    (
+        PREDICTOR,
+        Asked {
+            predictor: PredictorStart::Zero,
+            ..PLAIN
+        },
+    ),
+    (
+        WEATHER,
+        Asked {
+            weather: WeatherKind::Worst,
+            ..PLAIN
+        },
+    ),
     (
         CYCLES,
         Asked {

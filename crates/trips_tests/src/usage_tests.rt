@@ -135,6 +135,31 @@ const USAGES_OF_EVENTS: &[&[&str]] = &[
     &["four", "a.c", "a.c", "a.c", "a.c", "--events=1-2"],
 ];
 
+/// Words that no predictor, no weather and no number of frames has, and commands that have none of these.
+const USAGES_OF_CONDITIONS: &[&[&str]] = &[
+    &["run", "a.c", "--frames=0"],
+    &["run", "a.c", "--frames", "9"],
+    &["eval", "a.c", "--frames=1"],
+    &["run", "a.c", "--weather"],
+    &["run", "a.c", "--weather="],
+    &["run", "a.c", "--weather", "zero"],
+    &["run", "a.c", "--weather", "Calm"],
+    &["run", "a.c", "--weather", "calm "],
+    &["run", "a.c", "--weather=calm", "--weather=calm"],
+    &["run", "a.c", "--predictor"],
+    &["run", "a.c", "--predictor", "calm"],
+    &["run", "a.c", "--predictor", "0"],
+    &["run", "a.c", "--predictor", "none"],
+    &["resume", "s", "--weather", "best"],
+    &["bench", "1", "--predictor=zeros"],
+    &["eval", "a.c", "--weather=calm"],
+    &["compile", "a.c", "--predictor=zero"],
+    &["record", "b.img", "--weather=calm"],
+    &["save", "a.c", "1", "--weather=calm"],
+    &["four", "a.c", "a.c", "a.c", "a.c", "--weather=calm"],
+    &["four", "a.c", "a.c", "a.c", "a.c", "--predictor=zero"],
+];
+
 const USAGES_OF_PARTS: &[&[&str]] = &[
     &["four", "a.c", "b.c", "c.c"],
     &["four", "a.c", "b.c", "c.c", "d.c", "e.c"],
@@ -186,5 +211,11 @@ fn other_words_of_parts_are_no_request(rt: HostRuntime) -> Result<(), Fail> {
 #[test]
 fn other_words_of_events_are_no_request(rt: HostRuntime) -> Result<(), Fail> {
     assert_usages(&rt, rt.alloc(), USAGES_OF_EVENTS)?;
+    Ok(())
+}
+
+#[test]
+fn other_words_of_conditions_are_no_request(rt: HostRuntime) -> Result<(), Fail> {
+    assert_usages(&rt, rt.alloc(), USAGES_OF_CONDITIONS)?;
     Ok(())
 }

@@ -15,7 +15,7 @@ use Rattle.trips_requests.specs.declared.status.Status.{Status}
 use Rattle.trips_requests.specs.declared.status.Status.TheVariants as status
 use Rattle.trips_requests.specs.Limits.{most_recorded}
 use Rattle.trips_requests.specs.Texts.{IsFixed, read_fault_text}
-use Rattle.trips_report.specs.Endings.{status_of}
+use Rattle.trips_report.specs.Endings.{status_by}
 use Rattle.trips_tools.specs.ToolAnswers.{IsNoImage, IsBadImage}
 use Rattle.trips_trace_answers.specs.TraceReports.{trace_text, verified_report}
 
@@ -31,7 +31,8 @@ IsRefusedImage bytes s report =
 -- the report is the longest trace of an image's run on an input within so many blocks, and the status how it ends
 abbrev pub TellsTrace : Image → List ℕ → ℕ → Status → List ℕ → Type 0
 TellsTrace image input most s report =
-    (ended : Ending) × IsRecorded image.blocks (start image.bytes input) most report ended × (s ≡ status_of ended)
+    (ended : Ending) × (word : ℕ) × IsRecorded image.blocks (start image.bytes input) most report ended word
+    × (s ≡ status_by ended word)
 
 -- that is told of the image whose bytes these are
 abbrev pub IsRecording : ℕ → List ℕ → List ℕ → Status → List ℕ → Type 0

@@ -39,8 +39,8 @@ fn image_recorded(
     ensures { IfOk result (λ answer. TellsTrace image.now input most answer.status answer.report.items) }
 {
     match record_run(alloc, image, input.into_vec(), most) {
-        Ok((report, ending)) => Ok(Answer {
-            status: status_for(ending),
+        Ok((report, ending, word)) => Ok(Answer {
+            status: status_for(ending, word),
             report,
         }),
         Err(_) => Err(AllocError),

@@ -207,6 +207,20 @@ pub no_flag_seed : (k : Verb) → is_flag (codes "seed") (options_of k) ≡ fals
 no_flag_seed verb.Run = refl
 no_flag_seed _ = refl
 
+-- nor are the predictor's table and the weather
+pub no_flag_predictor : (k : Verb) → is_flag (codes "predictor") (options_of k) ≡ false
+no_flag_predictor verb.Run = refl
+no_flag_predictor _ = refl
+
+pub no_flag_weather : (k : Verb) → is_flag (codes "weather") (options_of k) ≡ false
+no_flag_weather verb.Run = refl
+no_flag_weather _ = refl
+
+-- the frames that may be in flight are no flag of a command
+pub no_flag_frames : (k : Verb) → is_flag (codes "frames") (options_of k) ≡ false
+no_flag_frames verb.Run = refl
+no_flag_frames _ = refl
+
 -- the cycles whose events are shown are no flag of a command
 pub no_flag_events : (k : Verb) → is_flag (codes "events") (options_of k) ≡ false
 no_flag_events verb.Run = refl
@@ -230,58 +244,75 @@ found_on options said m name f = ap is_on (f name) ∙ on_is (is_flag name optio
 
 -- options by their parts
 abbrev pub options_by : Option Text → Option Text → Option Text → Option Text → Option Text → Option Text
-    → Option Text → Option Text → Bool → Bool → Bool → Bool → Option Text → Options
-options_by second third fourth input number place unroll seed regs trace cycles stats events = record {
-  second = second;
-  third = third;
-  fourth = fourth;
-  input = input;
-  number = number;
-  place = place;
-  unroll = unroll;
-  seed = seed;
-  regs = regs;
-  trace = trace;
-  cycles = cycles;
-  stats = stats;
-  events = events;
-}
+    → Option Text → Option Text → Option Text → Option Text → Option Text → Bool → Bool → Bool → Bool
+    → Option Text → Options
+options_by second third fourth input number place unroll seed predictor weather frames regs trace cycles stats
+    events =
+    record {
+      second = second;
+      third = third;
+      fourth = fourth;
+      input = input;
+      number = number;
+      place = place;
+      unroll = unroll;
+      seed = seed;
+      predictor = predictor;
+      weather = weather;
+      frames = frames;
+      regs = regs;
+      trace = trace;
+      cycles = cycles;
+      stats = stats;
+      events = events;
+    }
 
 -- options that are the same part by part
 pub same_options : (second second' third third' fourth fourth' input input' number number' place place' unroll
-    unroll' seed seed' : Option Text) (regs regs' trace trace' cycles cycles' stats stats' : Bool)
-    (events events' : Option Text) → second ≡ second'
-    → third ≡ third' → fourth ≡ fourth' → input ≡ input' → number ≡ number' → place ≡ place' → unroll ≡ unroll'
-    → seed ≡ seed' → regs ≡ regs' → trace ≡ trace' → cycles ≡ cycles' → stats ≡ stats' → events ≡ events'
-    → options_by second third fourth input number place unroll seed regs trace cycles stats events
-    ≡ options_by second' third' fourth' input' number' place' unroll' seed' regs' trace' cycles' stats' events'
-same_options second second' third third' fourth fourth' input input' number number' place place' unroll unroll'
-    seed seed' regs regs' trace trace' cycles cycles' stats stats' events events' a b c d e f g h i j k l m =
-    ap (λ (x : Option Text). options_by x third fourth input number place unroll seed regs trace cycles stats events) a
-    ∙ ap (λ (x : Option Text). options_by second' x fourth input number place unroll seed regs trace cycles stats
-    events) b
-    ∙ ap (λ (x : Option Text). options_by second' third' x input number place unroll seed regs trace cycles stats
-    events) c
-    ∙ ap (λ (x : Option Text). options_by second' third' fourth' x number place unroll seed regs trace cycles stats
-    events) d
-    ∙ ap (λ (x : Option Text). options_by second' third' fourth' input' x place unroll seed regs trace cycles stats
-    events) e
-    ∙ ap (λ (x : Option Text). options_by second' third' fourth' input' number' x unroll seed regs trace cycles stats
-    events) f
-    ∙ ap (λ (x : Option Text). options_by second' third' fourth' input' number' place' x seed regs trace cycles stats
-    events) g
-    ∙ ap (λ (x : Option Text). options_by second' third' fourth' input' number' place' unroll' x regs trace cycles
-    stats events) h
-    ∙ ap (λ (x : Bool). options_by second' third' fourth' input' number' place' unroll' seed' x trace cycles stats
-    events) i
-    ∙ ap (λ (x : Bool). options_by second' third' fourth' input' number' place' unroll' seed' regs' x cycles stats
-    events) j
-    ∙ ap (λ (x : Bool). options_by second' third' fourth' input' number' place' unroll' seed' regs' trace' x stats
-    events) k
-    ∙ ap (λ (x : Bool). options_by second' third' fourth' input' number' place' unroll' seed' regs' trace' cycles' x
-    events) l
-    ∙ ap (λ (x : Option Text). options_by second' third' fourth' input' number' place' unroll' seed' regs' trace'
-    cycles' stats' x) m
+    unroll' seed seed' predictor predictor' weather weather' frames frames' : Option Text) (regs regs' trace trace'
+    cycles cycles' stats stats' : Bool) (events events' : Option Text) → second ≡ second' → third ≡ third'
+    → fourth ≡ fourth' → input ≡ input' → number ≡ number' → place ≡ place' → unroll ≡ unroll' → seed ≡ seed'
+    → predictor ≡ predictor' → weather ≡ weather' → frames ≡ frames' → regs ≡ regs' → trace ≡ trace'
+    → cycles ≡ cycles' → stats ≡ stats' → events ≡ events'
+    → options_by second third fourth input number place unroll seed predictor weather frames regs trace cycles stats
+    events
+    ≡ options_by second' third' fourth' input' number' place' unroll' seed' predictor' weather' frames' regs' trace'
+    cycles' stats' events'
+same_options second second' third third' fourth fourth' input input' number number' place place' unroll unroll' seed
+    seed' predictor predictor' weather weather' frames frames' regs regs' trace trace' cycles cycles' stats stats'
+    events events' p1 p2 p3 p4 p5 p6 p7 p8 p9 p10 p11 p12 p13 p14 p15 p16 =
+    ap (λ (x : Option Text). options_by x third fourth input number place unroll seed predictor weather frames regs
+    trace cycles stats events) p1
+    ∙ ap (λ (x : Option Text). options_by second' x fourth input number place unroll seed predictor weather frames
+    regs trace cycles stats events) p2
+    ∙ ap (λ (x : Option Text). options_by second' third' x input number place unroll seed predictor weather frames
+    regs trace cycles stats events) p3
+    ∙ ap (λ (x : Option Text). options_by second' third' fourth' x number place unroll seed predictor weather frames
+    regs trace cycles stats events) p4
+    ∙ ap (λ (x : Option Text). options_by second' third' fourth' input' x place unroll seed predictor weather frames
+    regs trace cycles stats events) p5
+    ∙ ap (λ (x : Option Text). options_by second' third' fourth' input' number' x unroll seed predictor weather
+    frames regs trace cycles stats events) p6
+    ∙ ap (λ (x : Option Text). options_by second' third' fourth' input' number' place' x seed predictor weather
+    frames regs trace cycles stats events) p7
+    ∙ ap (λ (x : Option Text). options_by second' third' fourth' input' number' place' unroll' x predictor weather
+    frames regs trace cycles stats events) p8
+    ∙ ap (λ (x : Option Text). options_by second' third' fourth' input' number' place' unroll' seed' x weather
+    frames regs trace cycles stats events) p9
+    ∙ ap (λ (x : Option Text). options_by second' third' fourth' input' number' place' unroll' seed' predictor' x
+    frames regs trace cycles stats events) p10
+    ∙ ap (λ (x : Option Text). options_by second' third' fourth' input' number' place' unroll' seed' predictor'
+    weather' x regs trace cycles stats events) p11
+    ∙ ap (λ (x : Bool). options_by second' third' fourth' input' number' place' unroll' seed' predictor' weather'
+    frames' x trace cycles stats events) p12
+    ∙ ap (λ (x : Bool). options_by second' third' fourth' input' number' place' unroll' seed' predictor' weather'
+    frames' regs' x cycles stats events) p13
+    ∙ ap (λ (x : Bool). options_by second' third' fourth' input' number' place' unroll' seed' predictor' weather'
+    frames' regs' trace' x stats events) p14
+    ∙ ap (λ (x : Bool). options_by second' third' fourth' input' number' place' unroll' seed' predictor' weather'
+    frames' regs' trace' cycles' x events) p15
+    ∙ ap (λ (x : Option Text). options_by second' third' fourth' input' number' place' unroll' seed' predictor'
+    weather' frames' regs' trace' cycles' stats' x) p16
 
 -- where something was found, words say something, and else they say nothing
 pub told_some : (k : Verb) (said : Option Said) (m : ArgMatches) (r : Option Request)

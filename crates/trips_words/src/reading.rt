@@ -59,6 +59,9 @@ fn run_command<'a>(alloc: Global) -> Result<clap::Command<'a>, AllocError>
         .arg(flag(alloc, "cycles"))?
         .arg(flag(alloc, "stats"))?
         .arg(valued(alloc, "events"))?
+        .arg(valued(alloc, "predictor"))?
+        .arg(valued(alloc, "weather"))?
+        .arg(valued(alloc, "frames"))?
         .arg(Arg::new(alloc, FILE))
 }
 
@@ -73,6 +76,9 @@ fn bench_command<'a>(alloc: Global) -> Result<clap::Command<'a>, AllocError>
         .arg(valued(alloc, "unroll"))?
         .arg(valued(alloc, "seed"))?
         .arg(flag(alloc, "cycles"))?
+        .arg(valued(alloc, "predictor"))?
+        .arg(valued(alloc, "weather"))?
+        .arg(valued(alloc, "frames"))?
         .arg(Arg::new(alloc, FILE))
 }
 
@@ -147,6 +153,9 @@ fn resume_command<'a>(alloc: Global) -> Result<clap::Command<'a>, AllocError>
         .arg(flag(alloc, "cycles"))?
         .arg(flag(alloc, "stats"))?
         .arg(valued(alloc, "events"))?
+        .arg(valued(alloc, "predictor"))?
+        .arg(valued(alloc, "weather"))?
+        .arg(valued(alloc, "frames"))?
         .arg(Arg::new(alloc, FILE))
 }
 

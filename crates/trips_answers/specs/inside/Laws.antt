@@ -12,6 +12,7 @@ use Rattle.grid_cycle_spec.specs.Costs.{cost_of}
 use Rattle.trips_report.specs.declared.show.Show.{Show}
 use Rattle.trips_requests.specs.declared.status.Status.{Status}
 use Rattle.trips_requests.specs.declared.status.Status.TheVariants as status
+use Rattle.trips_requests.specs.Results.{result_status}
 use Rattle.trips_answers.specs.Asks.{ended_report}
 use Rattle.trips_answers.specs.Report.{TellsRun, full_report, shown_behind}
 
@@ -24,7 +25,7 @@ TellsDone =
     (s : Status) (report : List ℕ) → DoesText text turns image → IsAccepted text program → IsInput input
     → eval program input n ≡ Done output value steps → 16 * n + 16 ≤ most
     → (told : TellsRun image input most show s report)
-    → let run = runs image.blocks (start image.bytes input) most in (s ≡ status.Ended)
+    → let run = runs image.blocks (start image.bytes input) most in (s ≡ result_status value)
     × (report ≡ shown_behind (ended_report output value) run.0 told.0 (cost_of image.blocks run.0.trace) show)
 
 -- where it is too deep within n steps, a full stack is, with the output so far

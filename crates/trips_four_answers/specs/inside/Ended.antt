@@ -44,12 +44,13 @@ abbrev pub costs_by : Fours PcgWeather → ℕ → List Ending → ℕ
 costs_by v program [] = 0
 costs_by v program (e ∷ es) = cost_by v program e + costs_by v (program + 1) es
 
--- the status of the lowest that has not ended with its end
-abbrev pub status_by : List Ending → Status
-status_by [] = status.Ended
-status_by (e ∷ es) = status_or (status_of e) (status_by es)
+-- the status of the lowest from a number on that has not ended with its end
+abbrev pub status_by : Fours PcgWeather → ℕ → List Ending → Status
+status_by v program [] = status.Ended
+status_by v program (e ∷ es) =
+    status_or (status_of e (v.four.own program).window.state) (status_by v (program + 1) es)
 
 -- the answer that tells how four have ended
 abbrev pub AreTold : Fours PcgWeather → Bool → List Ending → Status → List ℕ → Type 0
-AreTold v cycles es s report = (length es ≡ 4) × IsFixed (status_by es)
+AreTold v cycles es s report = (length es ≡ 4) × IsFixed (status_by v 0 es)
     (texts_by v 0 es ++ counts_text cycles v.four.cycles (costs_by v 0 es)) s report

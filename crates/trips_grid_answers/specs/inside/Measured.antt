@@ -4,7 +4,7 @@ use Rattle.trips_isa.specs.declared.run.Counts.{Counts}
 use Rattle.grid_tallies.specs.declared.statistic.Statistic.TheVariants as statistic
 use Rattle.grid_tallies.specs.declared.counters.Counters.{Counters}
 use Rattle.grid_tallies.specs.declared.flights.Flights.{Flights}
-use Rattle.grid_tallies.specs.Statistics.{number_of}
+use Rattle.grid_tallies.specs.Statistics.{number_of, stations_of}
 use Rattle.trips_report.specs.declared.measured.Measured.{Measured}
 use Rattle.trips_report.specs.declared.measured.Statistics.{Statistics}
 
@@ -22,6 +22,7 @@ statistics_of c f = record {
   predictions = number_of statistic.Predictions c.tallies;
   right = (c.guesses).right;
   in_flight = f.cycles;
+  stations = stations_of c.tallies;
 }
 
 -- what was counted of a run whose statistics were counted, and of whose events nothing is told

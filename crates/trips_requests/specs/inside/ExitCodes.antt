@@ -15,3 +15,4 @@ number_of status.WriteFault = 7
 number_of status.Memory = 8
 number_of status.Trap = 9
 number_of status.Undefined = 10
+number_of status.Aborted = 11

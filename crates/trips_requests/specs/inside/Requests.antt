@@ -1,7 +1,6 @@
 -- Beside what is believed of Requests.antt: which request the words of a command line make (README.md of this
 -- crate).
 use Rattle.std.specs.Prelude.{option_copied}
-use Rattle.trips_requests.specs.declared.commands.Command.TheVariants as command
 use Rattle.trips_requests.specs.declared.commands.Asked.{Asked}
 use Rattle.trips_requests.specs.Requests.{Request, asked}
 
@@ -19,6 +18,9 @@ request_seen asked = record {
   place = asked.place;
   unroll = asked.unroll;
   seed = asked.seed;
+  predictor = asked.predictor;
+  weather = asked.weather;
+  frames = asked.frames;
   regs = asked.regs;
   trace = asked.trace;
   cycles = asked.cycles;

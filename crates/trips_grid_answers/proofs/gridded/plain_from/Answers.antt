@@ -14,7 +14,7 @@ returns c =
     let value = c.memory.ensures.value in
     let full : IsWhole s = record { registers = c.register.ensures.count; memory = rw (sym value) size } in
     let few : c.args.most < 2 ^ 32 = omega (arith) in
-    plain_told c.args.image.blocks s c.args.seed c.args.most c.args.show _ c.in_ok-ran.ran.ending _ _
+    plain_told c.args.image.blocks s c.args.conditions c.args.most c.args.show _ c.in_ok-ran.ran.ending _ _
     c.in_ok-ran.ensures.image
     (c.runs_from_a_state_end.ensures.within _ _ _ _ _ _ good full c.requires.next few)
     (c.runs_from_a_state_end.ensures.trapped _ _ _ _ _ _ good full c.requires.next few)

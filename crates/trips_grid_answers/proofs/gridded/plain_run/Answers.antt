@@ -11,10 +11,10 @@ returns c =
     let good = all_good c.args.image image in
     let some : 0 < length c.args.image.blocks = omega (arith, image.fits.some) in
     let few : c.args.most < 2 ^ 32 = omega (arith) in
-    plain_told c.args.image.blocks (start c.args.image.bytes c.args.input) c.args.seed c.args.most c.args.show _
+    plain_told c.args.image.blocks (start c.args.image.bytes c.args.input) c.args.conditions c.args.most c.args.show _
     c.in_ok-ran.ran.ending _ _ c.in_ok-ran.ensures.image
-    (c.runs_of_a_seed_end.ensures.within _ _ _ _ _ _ _ good some image.fits.few c.requires.some few)
-    (c.runs_of_a_seed_end.ensures.trapped _ _ _ _ _ _ _ good some image.fits.few c.requires.some few)
-    (λ block cause. c.runs_of_a_seed_end.ensures.trapped_block _ _ _ _ _ block cause _ good some image.fits.few
+    (c.runs_from_the_start_end.ensures.within _ _ _ _ _ _ _ good some image.fits.few c.requires.some few)
+    (c.runs_from_the_start_end.ensures.trapped _ _ _ _ _ _ _ good some image.fits.few c.requires.some few)
+    (λ block cause. c.runs_from_the_start_end.ensures.trapped_block _ _ _ _ _ block cause _ good some image.fits.few
     c.requires.some few)
     c.in_ok-ran.ensures.ran c.requires.plain c.requires.untold c.ended_answer.ensures

@@ -13,5 +13,8 @@ returns c =
     let three = c.in_ok-arg-3.ensures.shape c.valued-3.ensures.local ∙ ap₂ with_rule two c.valued-3.ensures.rule in
     let four = c.in_ok-arg-4.ensures.shape c.valued-4.ensures.local ∙ ap₂ with_rule three c.valued-4.ensures.rule in
     let five = c.in_ok-arg-5.ensures.shape c.flag.ensures.local ∙ ap₂ with_rule four c.flag.ensures.rule in
-    IfOk-weaker c.arg-6.result _ _
-    (λ r h. h.shape c.new-2.ensures.optional.1 ∙ ap₂ with_rule five c.new-2.ensures.rule) c.arg-6.ensures
+    let six = c.in_ok-arg-6.ensures.shape c.valued-5.ensures.local ∙ ap₂ with_rule five c.valued-5.ensures.rule in
+    let seven = c.in_ok-arg-7.ensures.shape c.valued-6.ensures.local ∙ ap₂ with_rule six c.valued-6.ensures.rule in
+    let eight = c.in_ok-arg-8.ensures.shape c.valued-7.ensures.local ∙ ap₂ with_rule seven c.valued-7.ensures.rule in
+    IfOk-weaker c.arg-9.result _ _
+    (λ r h. h.shape c.new-2.ensures.optional.1 ∙ ap₂ with_rule eight c.new-2.ensures.rule) c.arg-9.ensures

@@ -15,5 +15,8 @@ returns c =
     let five = c.in_ok-arg-5.ensures.shape c.flag-3.ensures.local ∙ ap₂ with_rule four c.flag-3.ensures.rule in
     let six = c.in_ok-arg-6.ensures.shape c.flag-4.ensures.local ∙ ap₂ with_rule five c.flag-4.ensures.rule in
     let seven = c.in_ok-arg-7.ensures.shape c.valued-3.ensures.local ∙ ap₂ with_rule six c.valued-3.ensures.rule in
-    IfOk-weaker c.arg-8.result _ _
-    (λ r h. h.shape c.new-2.ensures.optional.1 ∙ ap₂ with_rule seven c.new-2.ensures.rule) c.arg-8.ensures
+    let eight = c.in_ok-arg-8.ensures.shape c.valued-4.ensures.local ∙ ap₂ with_rule seven c.valued-4.ensures.rule in
+    let nine = c.in_ok-arg-9.ensures.shape c.valued-5.ensures.local ∙ ap₂ with_rule eight c.valued-5.ensures.rule in
+    let ten = c.in_ok-arg-10.ensures.shape c.valued-6.ensures.local ∙ ap₂ with_rule nine c.valued-6.ensures.rule in
+    IfOk-weaker c.arg-11.result _ _
+    (λ r h. h.shape c.new-2.ensures.optional.1 ∙ ap₂ with_rule ten c.new-2.ensures.rule) c.arg-11.ensures

@@ -18,5 +18,9 @@ returns c =
     let eight = c.in_ok-arg-8.ensures.shape c.flag-3.ensures.local ∙ ap₂ with_rule seven c.flag-3.ensures.rule in
     let nine = c.in_ok-arg-9.ensures.shape c.flag-4.ensures.local ∙ ap₂ with_rule eight c.flag-4.ensures.rule in
     let ten = c.in_ok-arg-10.ensures.shape c.valued-6.ensures.local ∙ ap₂ with_rule nine c.valued-6.ensures.rule in
-    IfOk-weaker c.arg-11.result _ _
-    (λ r h. h.shape c.new-2.ensures.optional.1 ∙ ap₂ with_rule ten c.new-2.ensures.rule) c.arg-11.ensures
+    let eleven = c.in_ok-arg-11.ensures.shape c.valued-7.ensures.local ∙ ap₂ with_rule ten c.valued-7.ensures.rule in
+    let twelve = c.in_ok-arg-12.ensures.shape c.valued-8.ensures.local
+    ∙ ap₂ with_rule eleven c.valued-8.ensures.rule in
+    let more = c.in_ok-arg-13.ensures.shape c.valued-9.ensures.local ∙ ap₂ with_rule twelve c.valued-9.ensures.rule in
+    IfOk-weaker c.arg-14.result _ _
+    (λ r h. h.shape c.new-2.ensures.optional.1 ∙ ap₂ with_rule more c.new-2.ensures.rule) c.arg-14.ensures
