@@ -7,7 +7,7 @@ most_source=262144
 
 # --- the table ---
 
-declare -A takes=() does=() least=() most=() options=() belongs=()
+declare -A takes=() does=() least=() most=() choices=() options=() belongs=()
 commands=() all_options=() calls=()
 
 # Reads commands.txt. What is said of a name stands below its line, from the third column.
@@ -24,6 +24,7 @@ read_table() {
         ;;
       option) all_options+=("$name") takes[$name]=$rest ;;
       range) least[$name]=${rest% *} most[$name]=${rest#* } ;;
+      words) choices[$name]=$rest ;;
       call) calls+=("$name") takes[$name]=$rest ;;
     esac
   done <"$here/commands.txt"
@@ -87,7 +88,7 @@ help_all() {
   echo
   for name in "${commands[@]}"; do printf '  %s %-8s%-12s%s\n' "$me" "$name" "${takes[$name]}" "${does[$name]}"; done
   echo
-  for name in "${all_options[@]}"; do printf '  %-13s%s\n' "$name ${takes[$name]}" "${does[$name]}"; done
+  for name in "${all_options[@]}"; do printf '  %-14s%s\n' "$name ${takes[$name]}" "${does[$name]}"; done
   echo
   for name in "${calls[@]}"; do
     case $me$name in trips--[pi]*) continue ;; esac
@@ -113,7 +114,7 @@ help_command() {
   for name in ${options[$1]}; do
     range_of "$1" "$name"
     range=${most[$of]:+ (from ${least[$of]} to $(grouped "${most[$of]}"))}
-    printf '    %-13s%s%s\n' "$name ${takes[$name]}" "${does[$name]}" "$range"
+    printf '    %-14s%s%s\n' "$name ${takes[$name]}" "${does[$name]}" "$range"
   done
 }
 
@@ -178,6 +179,14 @@ judge_cycles() {
   if [[ $1 != *-* ]] || ! is_within "$first" "$2" || ! is_within "$last" "$2" || ((10#$first > 10#$last)); then
     wrong "$2 takes two numbers, as 1-100, from ${least[$2]} to $(grouped "${most[$2]}"), and not $(shown "$1")"
   fi
+}
+
+# Judges the word that is said of a name.
+judge_word() {
+  case " ${choices[$2]} " in
+    *" $1 "*) [[ $1 != *" "* && -n $1 ]] && return ;;
+  esac
+  wrong "$2 takes one of ${choices[$2]}, and not $(shown "$1")"
 }
 
 # Notes a value under a name, once.
@@ -250,6 +259,7 @@ judge_said() {
   for name in "${!said[@]}"; do
     [ "${takes[$name]-}" != N ] || judge_number "${said[$name]}" "$name" || return
     [ "${takes[$name]-}" != A-B ] || judge_cycles "${said[$name]}" "$name" || return
+    [ -z "${choices[$name]-}" ] || judge_word "${said[$name]}" "$name" || return
   done
   [ "${said[--events]+y}${said[--stats]+y}" != yy ] || wrong "--events and --stats are of two runs" || return
   for name in --place --unroll; do

@@ -54,7 +54,7 @@ function serve() {
 // --- what the bytes say ---
 
 const STATUS = { 0: "ended", 2: "usage", 3: "read fault", 4: "refused", 5: "budget spent", 6: "stack full",
-  8: "want of memory", 9: "trap", 10: "undefined" };
+  8: "want of memory", 9: "trap", 10: "undefined", 11: "aborted" };
 const STANDS = ["goes on", "ended", "stack full", "budget spent", "trap"];
 const utf8 = new TextEncoder(), read = new TextDecoder();
 const NUMBER = new Intl.NumberFormat("en");
