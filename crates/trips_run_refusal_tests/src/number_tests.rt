@@ -39,7 +39,12 @@ const ROWS: &[Row] = &[
     (&["run", "a.c"], DEEP, 6, "output 0\n\nstack full\n"),
     (&["eval", "a.c"], DEEP, 6, "deep\n"),
     (&["run", "a.c"], DIVISION, 9, "output 0\n\ntrap block "),
-    (&["eval", "a.c"], DIVISION, 10, "undefined\n"),
+    (
+        &["eval", "a.c"],
+        DIVISION,
+        10,
+        "output 0\n\nundefined: the quotient 7 / 0 ",
+    ),
 ];
 
 fn assert_rows(rt: &impl Abort, alloc: Global, rows: &[Row]) -> Result<(), AllocError> {
