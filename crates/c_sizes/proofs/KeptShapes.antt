@@ -11,7 +11,7 @@ use Rattle.c_library.proofs.Holds.{Fact, EachForm, EachToken, Allows}
 use Rattle.c_sizes.specs.declared.shape.Shape.{Shape}
 use Rattle.c_sizes.specs.Counts.{is_size, size, behind_size, values}
 use Rattle.c_sizes.specs.Firsts.{begins, rest}
-use Rattle.c_sizes.specs.Shapes.{constant, times, row, table, untold, scalar, whole, array, rows, first_size}
+use Rattle.c_sizes.specs.Shapes.{constant, times, row, table, untold, function, scalar, whole, array, rows, first_size}
 use Rattle.c_sizes.specs.Shapes.{sized_array, shape}
 
 -- it holds of each token that stands for a size of this
@@ -69,7 +69,10 @@ whole_has P false fs a h = h
 untold_has : (P : Fact) → EachOf P untold
 untold_has P = record { whole = tt; row = tt; element = tt }
 
-scalar_has : (P : Fact) (b : ℕ) → Allows P → EachOf P (scalar b)
+pub function_has : (P : Fact) (b : ℕ) → EachOf P (function b)
+function_has P b = record { whole = tt; row = tt; element = tt }
+
+pub scalar_has : (P : Fact) (b : ℕ) → Allows P → EachOf P (scalar b)
 scalar_has P b a = record { whole = alone_has P b a; row = tt; element = tt }
 
 array_has : (P : Fact) (p : Bool) (b : ℕ) (s : List Form) → Allows P → EachForm P s → EachOf P (array p b s)
@@ -128,8 +131,8 @@ shape_has P p b ts a h =
     let first : Shape = sized_array p b (rest ts) (behind_size (rest ts)) in
     let is_known : Bool = is_size (rest ts) in
     let is_scalar : Bool = not (begins mark.LeftBracket ts) in
-    either (EachOf P) (begins mark.LeftParen ts) untold (cond is_scalar (scalar b) (cond is_known first untold))
-    (untold_has P)
+    either (EachOf P) (begins mark.LeftParen ts) (function b) (cond is_scalar (scalar b) (cond is_known first untold))
+    (function_has P b)
     (either (EachOf P) is_scalar (scalar b) (cond is_known first untold) (scalar_has P b a)
     (either (EachOf P) is_known first untold
     (sized_has P p b (rest ts) (behind_size (rest ts)) a (rest_has P ts h) (behind_has P (rest ts) (rest_has P ts h)))

@@ -26,9 +26,9 @@ use Rattle.c_sizes.specs.Objects.{inner, grouped, object_by, object}
 use Rattle.c_sizes.specs.Operands.{is_sizeof, Valued, valued, by_value, or_by_value, told}
 use Rattle.c_sizes.specs.Scopes as scopes
 use Rattle.c_sizes.specs.Sized.{Sized, unsized, counted, size_at, stands_for, left_out, sized_from}
-use Rattle.c_sizes.specs.Walks.{start, declares, shape_in, with_declared, past_mark, past_form, past}
+use Rattle.c_sizes.specs.Walks.{start, declares, shape_in, with_declared, with_library, past_mark, past_form, past}
 use Rattle.c_sizes.specs.Widths.{bytes}
-use Rattle.c_sizes.proofs.KeptShapes.{EachOf, either, alone_has, shape_has, none_has}
+use Rattle.c_sizes.proofs.KeptShapes.{EachOf, either, alone_has, function_has, scalar_has, shape_has, none_has}
 
 -- NAMES
 
@@ -80,11 +80,18 @@ declared_has P (Some b) v ts w a h k =
     name_has P (nests.is_outside w.nest) v (shape_in w.nest.inner.opened b ts) w.known
     (in_has P w.nest.inner.opened b ts a h) k
 
+library_has : (P : Fact) (w : Walk) → Allows P → EachKnown P w.known → EachKnown P (with_library w).known
+library_has P w a k = record {
+  file = (function_has P 4, (function_has P 4, (scalar_has P 4 a, k.file)));
+  inner = k.inner;
+}
+
 form_has : (P : Fact) (f : Form) (ts : Tokens) (w : Walk) → Allows P → EachToken P ts → EachKnown P w.known
     → EachKnown P (past_form f ts w).known
 form_has P (form.Name v) ts w a h k = declared_has P (declares w) v ts w a h k
 form_has P (form.Mark m) ts w a h k =
     scope_has P (nests.is_outside (past_mark m w).nest) m w.known k
+form_has P form.Include ts w a h k = library_has P w a k
 form_has P _ ts w a h k = k
 
 -- WHAT STANDS FOR A SIZE

@@ -6,7 +6,10 @@ pub mod Nests
 pub mod Scopes
 pub mod Walks
 pub mod Indexes
+pub mod Behinds
+pub mod Operators
 pub mod Cuts
+pub mod Outcomes
 pub mod Values
 pub mod Objects
 pub mod Operands

@@ -8,18 +8,11 @@ use Rattle.c_lex.specs.Lexes.{Tokens}
 use Rattle.c_locals.specs.Brackets.{Parts, split}
 use Rattle.c_sizes.specs.declared.known.Known.{Known}
 use Rattle.c_sizes.specs.declared.shape.Shape.{Shape}
+use Rattle.c_sizes.specs.Behinds.{goes_on}
 use Rattle.c_sizes.specs.Indexes.{Indexed, indexed}
 use Rattle.c_sizes.specs.Scopes.{find}
 
--- does an operand go on with this token, as an element, a call or a sum?
-abbrev pub goes_on : Form → Bool
-goes_on (form.Mark mark.LeftBracket) = true
-goes_on (form.Mark mark.LeftParen) = true
-goes_on (form.Mark mark.PlusPlus) = true
-goes_on (form.Mark mark.MinusMinus) = true
-goes_on _ = false
-
--- does it end before these tokens?
+-- does an operand end before these tokens?
 abbrev pub is_end : Tokens → Bool
 is_end [] = true
 is_end (t ∷ ts) = not (goes_on t.form)

@@ -1,5 +1,7 @@
--- What stands for `sizeof` of an object: its size, and that of its rows and elements (C17 6.5.3.4, 6.2.5).
-use Rattle.std.specs.Prelude.{ℕ, ◌^◌, ◌%◌, Bool, true, false, not, ◌&&◌, if◌then◌else◌, List, [], ◌∷◌, ◌++◌}
+-- What stands for `sizeof` of an object: its size, and that of its rows and elements; and the size of what a function
+-- gives (C17 6.5.3.4, 6.2.5).
+use Rattle.std.specs.Prelude.{ℕ, ◌^◌, ◌%◌, Bool, true, false, not, ◌&&◌, if◌then◌else◌, List, [], ◌∷◌, ◌++◌, Some}
+use Rattle.std.specs.Prelude.{None}
 use Rattle.c_tree.specs.declared.Form.{Form}
 use Rattle.c_tree.specs.declared.Form.TheVariants as form
 use Rattle.c_tree.specs.declared.Kind.TheVariants as kind
@@ -25,13 +27,17 @@ row b s = form.Mark mark.LeftParen ∷ constant b ∷ (times s ++ form.Mark mark
 abbrev pub table : ℕ → List Form → List Form → List Form
 table b r s = form.Mark mark.LeftParen ∷ constant b ∷ (times r ++ (times s ++ form.Mark mark.RightParen ∷ []))
 
--- what has no size that is told, as a function
+-- what has no size that is told
 abbrev pub untold : Shape
-untold = record { whole = []; row = []; element = [] }
+untold = record { whole = []; row = []; element = []; result = None }
+
+-- a function, whose result has so many bytes, or none if it is void
+abbrev pub function : ℕ → Shape
+function b = record { whole = []; row = []; element = []; result = Some b }
 
 -- a scalar of so many bytes
 abbrev pub scalar : ℕ → Shape
-scalar b = record { whole = constant b ∷ []; row = []; element = [] }
+scalar b = record { whole = constant b ∷ []; row = []; element = []; result = None }
 
 -- what the whole of an array is, of these tokens; as a parameter it is a pointer (6.7.6.3, paragraph 7)
 abbrev pub whole : Bool → List Form → List Form
@@ -40,11 +46,11 @@ whole false fs = fs
 
 -- an array, which is a parameter or not, of elements of so many bytes, with this size
 abbrev pub array : Bool → ℕ → List Form → Shape
-array p b s = record { whole = whole p (row b s); row = constant b ∷ []; element = [] }
+array p b s = record { whole = whole p (row b s); row = constant b ∷ []; element = []; result = None }
 
 -- an array with these two sizes
 abbrev pub rows : Bool → ℕ → List Form → List Form → Shape
-rows p b r s = record { whole = whole p (table b r s); row = row b s; element = constant b ∷ [] }
+rows p b r s = record { whole = whole p (table b r s); row = row b s; element = constant b ∷ []; result = None }
 
 -- the first size, which these tokens begin with, where those stand behind the brackets: `[ ]` has as many as values
 abbrev pub first_size : Tokens → Tokens → List Form
@@ -61,6 +67,6 @@ sized_array p b ts behind =
 -- what a name is that is declared before these tokens, as a parameter or not, with a type of so many bytes
 abbrev pub shape : Bool → ℕ → Tokens → Shape
 shape p b ts =
-    if begins mark.LeftParen ts then untold
+    if begins mark.LeftParen ts then function b
     else if not (begins mark.LeftBracket ts) then scalar b
     else if is_size (rest ts) then sized_array p b (rest ts) (behind_size (rest ts)) else untold

@@ -1,5 +1,5 @@
 -- What is known before a token of a unit.
-use Rattle.std.specs.Prelude.{ℕ, Bool, true, false, if◌then◌else◌, Option, Some, None}
+use Rattle.std.specs.Prelude.{ℕ, Bool, true, false, if◌then◌else◌, Option, Some, None, codes}
 use Rattle.c_tree.specs.declared.Form.{Form}
 use Rattle.c_tree.specs.declared.Form.TheVariants as form
 use Rattle.c_tree.specs.declared.Key.{Key}
@@ -17,7 +17,7 @@ use Rattle.c_sizes.specs.declared.walk.Front.TheVariants as front
 use Rattle.c_sizes.specs.declared.walk.Walk.{Walk}
 use Rattle.c_sizes.specs.Nests as nests
 use Rattle.c_sizes.specs.Scopes as scopes
-use Rattle.c_sizes.specs.Shapes.{untold, shape}
+use Rattle.c_sizes.specs.Shapes.{untold, function, scalar, shape}
 
 -- before the first token
 abbrev pub start : Walk
@@ -85,6 +85,25 @@ abbrev pub with_declared : Option ℕ → Bytes → Tokens → Walk → Walk
 with_declared None v ts w = w
 with_declared (Some b) v ts w = with_name b v ts w
 
+-- THE LIBRARY
+
+-- a function of the library that gives an int, and a constant of that type (7.21.1, 7.21.7.6, 7.21.7.8)
+abbrev pub getchar_name : Bytes
+getchar_name = codes "getchar"
+
+abbrev pub putchar_name : Bytes
+putchar_name = codes "putchar"
+
+abbrev pub eof_name : Bytes
+eof_name = codes "EOF"
+
+-- with what an include of `<stdio.h>` declares
+abbrev pub with_library : Walk → Walk
+with_library w = record w {
+  known = scopes.with_name true getchar_name (function 4)
+      (scopes.with_name true putchar_name (function 4) (scopes.with_name true eof_name (scalar 4) w.known));
+}
+
 -- BEHIND A TOKEN
 
 -- behind a punctuator, but for what stands in front
@@ -97,6 +116,7 @@ past_mark m w =
 abbrev pub past_form : Form → Tokens → Walk → Walk
 past_form (form.Name v) ts w = with_declared (declares w) v ts w
 past_form (form.Mark m) ts w = past_mark m w
+past_form form.Include ts w = with_library w
 past_form _ ts w = w
 
 -- behind a token, which stands before these

@@ -72,7 +72,3 @@ of_bytes n =
 abbrev pub of_constant : Form → Option Width
 of_constant (form.Number n kind.ULong) = of_bytes n
 of_constant _ = None
-
-abbrev pub of_forms : List Form → Option Width
-of_forms (f ∷ []) = of_constant f
-of_forms _ = None

@@ -19,7 +19,7 @@ fn is_known(known: &Known, form: &Form) -> bool
 }
 
 /// Is each of these?
-fn are_known(known: &Known, tokens: &[Lexeme]) -> bool
+pub fn are_known(known: &Known, tokens: &[Lexeme]) -> bool
     ensures { result ≡ indexes.are_known known.now tokens.now }
 {
     let mut rest = tokens;

@@ -2,6 +2,7 @@
 //! `sizeof` (docs/LANGUAGE.md).
 #![tactic(auto)]
 
+mod behind;
 mod cut;
 mod index;
 mod known;
@@ -9,6 +10,8 @@ mod mark;
 mod nest;
 mod object;
 mod operand;
+mod operator;
+mod outcome;
 mod shape;
 mod size;
 mod unit;

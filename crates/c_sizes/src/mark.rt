@@ -35,3 +35,13 @@ pub fn rest(tokens: &[Lexeme]) -> &[Lexeme]
         [_, more @ ..] => more,
     }
 }
+
+/// Are there no tokens?
+pub fn is_empty(tokens: &[Lexeme]) -> bool
+    ensures { result ≡ firsts.is_empty tokens.now }
+{
+    match tokens {
+        [] => true,
+        _ => false,
+    }
+}

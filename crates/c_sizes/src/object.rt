@@ -3,27 +3,15 @@
 ghost use Rattle.std.specs.Prelude.{◌≡◌, option_map};
 ghost use Rattle.c_sizes.specs.Objects as objects;
 
+use crate::behind::goes_on;
 use crate::index::indexed;
 use crate::known::Known;
 use crate::shape::Shape;
 use c_locals::split;
 use c_tree::{Form, Lexeme, Mark};
 
-/// Does an operand go on with this token?
-fn goes_on(form: &Form) -> bool
-    ensures { result ≡ objects.goes_on form.now }
-{
-    match form {
-        Form::Mark(mark) => match mark {
-            Mark::LeftBracket | Mark::LeftParen | Mark::PlusPlus | Mark::MinusMinus => true,
-            _ => false,
-        },
-        _ => false,
-    }
-}
-
 /// Does an operand end before these tokens?
-pub fn is_end(tokens: &[Lexeme]) -> bool
+fn is_end(tokens: &[Lexeme]) -> bool
     ensures { result ≡ objects.is_end tokens.now }
 {
     match tokens {

@@ -1,17 +1,18 @@
 //! The operand of a `sizeof`, and what stands for both.
 
-ghost use Rattle.std.specs.Prelude.{◌≡◌, option_map, IfOk};
+ghost use Rattle.std.specs.Prelude.{◌≡◌, ◌≤◌, length, option_map, IfOk};
 ghost use Rattle.c_sizes.specs.Operands as operands;
 
-use crate::index::indexed;
+use crate::behind::reach;
+use crate::cut::{Rule, cut};
 use crate::known::Known;
-use crate::object::{is_end, object};
+use crate::object::object;
+use crate::outcome::size;
 use crate::shape::add_copies;
-use crate::value::{of_name, value};
+use crate::value::value;
 use crate::width::Width;
 use base::Items;
-use c_locals::split;
-use c_tree::{Form, Key, Lexeme, Mark};
+use c_tree::{Form, Key, Lexeme};
 use std::alloc::{AllocError, Global};
 
 /// Is the token `sizeof`?
@@ -34,110 +35,53 @@ fn most_levels() -> u8
     64
 }
 
-/// A size with these tokens behind what has it, if that ends there.
-fn ended(width: Option<Width>, behind: &[Lexeme]) -> Option<(Width, &[Lexeme])>
-    ensures { option_map (λ p. (p.0, p.1.now)) result ≡ operands.ended width behind.now }
+/// Is it that of a cast?
+fn is_cast(rule: Rule) -> bool
+    ensures { result ≡ operands.is_cast rule }
+{
+    match rule {
+        Rule::Cast(_) => true,
+        _ => false,
+    }
+}
+
+/// That of the operand that these tokens are.
+fn whole(known: &Known, tokens: &[Lexeme]) -> Option<Width>
+    ensures { result ≡ operands.whole known.now tokens.now }
+{
+    let (rule, _, _, _) = cut(tokens);
+    if is_cast(rule) {
+        None
+    } else {
+        size(value(known, most_levels(), tokens))
+    }
+}
+
+/// A size with these tokens behind what has it, if it is known.
+fn before(width: Option<Width>, behind: &[Lexeme]) -> Option<(Width, &[Lexeme])>
+    ensures { option_map (λ p. (p.0, p.1.now)) result ≡ operands.before width behind.now }
 {
     match width {
         None => None,
-        Some(width) => {
-            if is_end(behind) {
-                Some((width, behind))
-            } else {
-                None
-            }
-        }
+        Some(width) => Some((width, behind)),
     }
 }
 
-/// That of what stands in parentheses, before others.
-fn within<'a>(
-    known: &Known,
-    parts: Option<(&'a [Lexeme], &'a [Lexeme])>,
-) -> Option<(Width, &'a [Lexeme])>
+/// That of an operand of so many tokens that these begin with.
+fn valued_by<'a>(known: &Known, count: usize, tokens: &'a [Lexeme]) -> Option<(Width, &'a [Lexeme])>
+    requires within { count ≤ length tokens.now }
     ensures { option_map (λ p. (p.0, p.1.now)) result
-        ≡ operands.within known.now (option_map (λ p. (p.0.now, p.1.now)) parts.entry) }
+        ≡ operands.valued_by known.now count tokens.now }
 {
-    match parts {
-        None => None,
-        Some((group, behind)) => ended(value(known, most_levels(), group), behind),
-    }
-}
-
-/// That of a constant, a name with indexes or an expression in parentheses, which these tokens begin with.
-fn simple<'a>(known: &Known, tokens: &'a [Lexeme]) -> Option<(Width, &'a [Lexeme])>
-    ensures { option_map (λ p. (p.0, p.1.now)) result ≡ operands.simple known.now tokens.now }
-{
-    match tokens {
-        [] => None,
-        [token, more @ ..] => match &token.form {
-            Form::Number { value: _, kind } => ended(Some(Width::of_kind(*kind)), more),
-            Form::Name(name) => {
-                let (count, behind) = indexed(known, more);
-                ended(of_name(known, name.as_slice(), count), behind)
-            }
-            Form::Mark(mark) => {
-                if *mark == Mark::LeftParen {
-                    within(known, split(Mark::RightParen, more))
-                } else {
-                    None
-                }
-            }
-            _ => None,
-        },
-    }
-}
-
-/// That of one behind a sign or `~`.
-fn signed(valued: Option<(Width, &[Lexeme])>) -> Option<(Width, &[Lexeme])>
-    ensures { option_map (λ p. (p.0, p.1.now)) result
-        ≡ operands.signed (option_map (λ p. (p.0, p.1.now)) valued.entry) }
-{
-    match valued {
-        None => None,
-        Some((width, behind)) => Some((width.promoted(), behind)),
-    }
-}
-
-/// And behind `!`.
-fn negated(valued: Option<(Width, &[Lexeme])>) -> Option<(Width, &[Lexeme])>
-    ensures { option_map (λ p. (p.0, p.1.now)) result
-        ≡ operands.negated (option_map (λ p. (p.0, p.1.now)) valued.entry) }
-{
-    match valued {
-        None => None,
-        Some((_, behind)) => Some((Width::Four, behind)),
-    }
-}
-
-/// That of an operand with a value that these tokens, of which the first is a punctuator, begin with.
-fn behind_mark<'a>(
-    known: &Known,
-    mark: Mark,
-    tokens: &'a [Lexeme],
-    behind: &'a [Lexeme],
-) -> Option<(Width, &'a [Lexeme])>
-    ensures { option_map (λ p. (p.0, p.1.now)) result
-        ≡ operands.behind_mark known.now mark tokens.now behind.now }
-{
-    match mark {
-        Mark::Plus | Mark::Minus | Mark::Tilde => signed(simple(known, behind)),
-        Mark::Not => negated(simple(known, behind)),
-        _ => simple(known, tokens),
-    }
+    let (operand, behind) = tokens.split_at(count);
+    before(whole(known, operand), behind)
 }
 
 /// That of an operand with a value that these tokens begin with.
 fn valued<'a>(known: &Known, tokens: &'a [Lexeme]) -> Option<(Width, &'a [Lexeme])>
     ensures { option_map (λ p. (p.0, p.1.now)) result ≡ operands.valued known.now tokens.now }
 {
-    match tokens {
-        [] => None,
-        [token, more @ ..] => match &token.form {
-            Form::Mark(mark) => behind_mark(known, *mark, tokens, more),
-            _ => simple(known, tokens),
-        },
-    }
+    valued_by(known, reach(tokens), tokens)
 }
 
 // OPERANDS

@@ -12,12 +12,13 @@ use c_tree::{Form, Kind, Lexeme, Mark};
 use std::alloc::{AllocError, Global};
 
 /// The tokens that stand for `sizeof` of a name: without an index, with one, with two. None stand for a size that is
-/// not told.
+/// not told. And the bytes of what the name gives, if it is a function: 0 if that is void.
 #[derive(Debug, Drop)]
 pub struct Shape {
     pub whole: Items<Form>,
     pub row: Items<Form>,
     pub element: Items<Form>,
+    pub result: Option<u8>,
 }
 
 /// A constant of type unsigned long.
@@ -132,17 +133,31 @@ impl Shape {
             whole: Items::new(alloc),
             row: Items::new(alloc),
             element: Items::new(alloc),
+            result: None,
+        }
+    }
+
+    /// A function whose result has so many bytes. It takes no memory.
+    pub fn function(alloc: Global, bytes: u8) -> Shape
+        ensures { result ≡ shapes.function bytes }
+    {
+        Shape {
+            whole: Items::new(alloc),
+            row: Items::new(alloc),
+            element: Items::new(alloc),
+            result: Some(bytes),
         }
     }
 
     /// A scalar. Want of memory is the only error.
-    fn scalar(alloc: Global, bytes: u8) -> Result<Shape, AllocError>
+    pub fn scalar(alloc: Global, bytes: u8) -> Result<Shape, AllocError>
         ensures { IfOk result (λ s. s ≡ shapes.scalar bytes) }
     {
         Ok(Shape {
             whole: alone(alloc, usize::from(bytes))?,
             row: Items::new(alloc),
             element: Items::new(alloc),
+            result: None,
         })
     }
 
@@ -160,6 +175,7 @@ impl Shape {
             whole: whole(alloc, is_parameter, all)?,
             row: alone(alloc, usize::from(bytes))?,
             element: Items::new(alloc),
+            result: None,
         })
     }
 
@@ -178,6 +194,7 @@ impl Shape {
             whole: whole(alloc, is_parameter, all)?,
             row: row(alloc, bytes, size)?,
             element: alone(alloc, usize::from(bytes))?,
+            result: None,
         })
     }
 
@@ -238,7 +255,7 @@ impl Shape {
         ensures { IfOk result (λ s. s ≡ shapes.shape is_parameter bytes tokens.now) }
     {
         if begins(Mark::LeftParen, tokens) {
-            Ok(Shape::untold(alloc))
+            Ok(Shape::function(alloc, bytes))
         } else if !begins(Mark::LeftBracket, tokens) {
             Shape::scalar(alloc, bytes)
         } else {

@@ -87,7 +87,7 @@ pub fn is_closing(mark: Mark) -> bool
 }
 
 /// How many of these are open behind a token.
-fn depth_past(depth: usize, form: &Form) -> usize
+pub fn depth_past(depth: usize, form: &Form) -> usize
     requires few { depth < 18446744073709551615 }
     ensures value { result ≡ counts.depth_past depth form.now }
     ensures few { result ≤ depth + 1 }

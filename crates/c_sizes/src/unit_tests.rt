@@ -108,13 +108,71 @@ const ROWS: &[(&str, &str)] = &[
          + sizeof((unsigned long) i + 1) + sizeof a[i * (2 - 1)] + sizeof m[i + 1] + sizeof -m[0][i];",
         "char c; int i; long a[3], m[2][2]; int n = 1ul + 8ul + 1ul + 8ul + 8ul + (8ul * (2)) + 8ul;",
     ),
+    // 6.5.2.2: calls have the type that the function gives.
     (
-        "int a[2], f(int), x; void g(int p[]) { g(sizeof(f(x)), sizeof(p + 1), sizeof(a + 1), sizeof(x ? 1 : 2), \
-         sizeof(x, 1), sizeof(x++), sizeof(long) x, sizeof(a = x), sizeof(1 = x), sizeof(&x), sizeof(x +), \
-         sizeof(y + 1), sizeof(int), sizeof((void) x)); }",
-        "int a[2], f(int), x; void g(int p[]) { g(sizeof(f(x)), sizeof(p + 1), sizeof(a + 1), sizeof(x ? 1 : 2), \
-         sizeof(x, 1), sizeof(x++), sizeof(long) x, sizeof(a = x), sizeof(1 = x), sizeof(&x), sizeof(x +), \
-         sizeof(y + 1), sizeof(int), sizeof((void) x)); }",
+        "int a[2], f(int), x; char c(void); long l(int a[]); _Bool t(int x) { return sizeof t(f(a[x]), (x, 1)); } \
+         int n = sizeof f(x) + sizeof(c()) + sizeof(l(a) + f(1)) + sizeof -c() + sizeof((c())) + sizeof a[f(x)];",
+        "int a[2], f(int), x; char c(void); long l(int a[]); _Bool t(int x) { return 1ul; } \
+         int n = 4ul + 1ul + 8ul + 4ul + 1ul + 4ul;",
+    ),
+    // 6.5.2.4, 6.5.3.1: `++` and `--` promote nothing.
+    (
+        "char c, d[2]; long l; int n = sizeof c++ + sizeof --c + sizeof(c--) + sizeof(++l) + sizeof -c++ \
+         + sizeof(d[c++]) + sizeof d[0]++ + sizeof (c)++ + sizeof(c++ + ++l) + sizeof ++(c) + sizeof((c)--) + sizeof(c - --c);",
+        "char c, d[2]; long l; int n = 1ul + 1ul + 1ul + 8ul + 4ul + 1ul \
+         + 1ul + 1ul + 8ul + 1ul + 1ul + 4ul;",
+    ),
+    // 6.5.17: a comma has the last operand; a void call may stand before it.
+    (
+        "char c; long l; void v(void); int n = sizeof(l, c) + sizeof(c, l) + sizeof(v(), c = 1, l) \
+         + sizeof((l, c) + 1) + sizeof(c, l, c) + sizeof((v()), c);",
+        "char c; long l; void v(void); int n = 1ul + 8ul + 8ul + 4ul + 1ul + 1ul;",
+    ),
+    // 6.5.15: the usual arithmetic conversions of both arms.
+    (
+        "char c; int i; long l; void v(void); int n = sizeof(i ? c : c) + sizeof(l ? i : l) + sizeof(i ? l : c) \
+         + sizeof(i ? i ? c : i : i ? l : c) + sizeof(i ? c, l : c) + sizeof(i = l ? c : i) + sizeof(i ? i = 1 : c, l) \
+         + sizeof(i < 1 ? c : c) + sizeof(i ? v() : v(), c) + sizeof((i ? c : l) + c) + sizeof(i ? c : l, c);",
+        "char c; int i; long l; void v(void); int n = 4ul + 8ul + 8ul \
+         + 8ul + 8ul + 4ul + 8ul \
+         + 4ul + 1ul + 8ul + 1ul;",
+    ),
+    // 6.5.3: signs, casts and sizes one behind another.
+    (
+        "char c, a[3][2]; long l; int n = sizeof - -c + sizeof ~~l + sizeof !!l + sizeof(+(char)-l) + sizeof -(char)c \
+         + sizeof((char)-l) + sizeof((long)-c + c) + sizeof((char)(short)l) + sizeof((char)++l) + sizeof(char)c;",
+        "char c, a[3][2]; long l; int n = 4ul + 8ul + 4ul + 4ul + 4ul \
+         + 1ul + 8ul + 1ul + 1ul + sizeof(char)c;",
+    ),
+    (
+        "char c, a[3][2]; int n = sizeof sizeof c + sizeof(sizeof a / sizeof a[0]) + sizeof sizeof(a[1]) \
+         + sizeof -sizeof c + sizeof(c ? sizeof c : c) + sizeof(sizeof(c)) + sizeof ~sizeof (c)++;",
+        "char c, a[3][2]; int n = 8ul + 8ul + 8ul + 8ul \
+         + 8ul + 8ul + 8ul;",
+    ),
+    // 7.21: what the include declares.
+    (
+        "#include <stdio.h>\nint n = sizeof getchar() + sizeof(putchar('a')) + sizeof EOF + sizeof(EOF);",
+        "#include <stdio.h>\nint n = 4ul + 4ul + 4ul + 4ul;",
+    ),
+    // What no expression is, or has no size.
+    (
+        "int a[2], f(int), x; void v(void); void g(int p[]) { g(sizeof(p + 1), sizeof(a + 1), sizeof(long) x, \
+         sizeof(a = x), sizeof(1 = x), sizeof(&x), sizeof(x +), sizeof(y + 1), sizeof(int), sizeof((void) x)); }",
+        "int a[2], f(int), x; void v(void); void g(int p[]) { g(sizeof(p + 1), sizeof(a + 1), sizeof(long) x, \
+         sizeof(a = x), sizeof(1 = x), sizeof(&x), sizeof(x +), sizeof(y + 1), sizeof(int), sizeof((void) x)); }",
+    ),
+    (
+        "int a[2], f(int), x; void v(void); void g(int p[]) { g(sizeof v(), sizeof(v()), sizeof(x, v()), \
+         sizeof(x ? v() : x), sizeof f(y), sizeof(x(1)), sizeof(f), sizeof(f(x)++), sizeof f(x)--, sizeof(v() ? 1 : 2), \
+         sizeof(-v()), sizeof(x)++--, sizeof x++ ++, sizeof ++1, sizeof ++-x, sizeof(a++), sizeof(x ? 1), sizeof(x : 1), \
+         sizeof(x ?: 1), sizeof(x ? a : a), sizeof(, x), sizeof(x,), sizeof((x, x)++), \
+         sizeof(x = 1 = 2), sizeof h()); }",
+        "int a[2], f(int), x; void v(void); void g(int p[]) { g(sizeof v(), sizeof(v()), sizeof(x, v()), \
+         sizeof(x ? v() : x), sizeof f(y), sizeof(x(1)), sizeof(f), sizeof(f(x)++), sizeof f(x)--, sizeof(v() ? 1 : 2), \
+         sizeof(-v()), sizeof(x)++--, sizeof x++ ++, sizeof ++1, sizeof ++-x, sizeof(a++), sizeof(x ? 1), sizeof(x : 1), \
+         sizeof(x ?: 1), sizeof(x ? a : a), sizeof(, x), sizeof(x,), sizeof((x, x)++), \
+         sizeof(x = 1 = 2), sizeof h()); }",
     ),
     // What stays: functions, other operands, sizes with names.
     (
@@ -123,13 +181,17 @@ const ROWS: &[(&str, &str)] = &[
     ),
     (
         "int a[3], x; int n = sizeof a[x + 1] + sizeof(x)++ + sizeof (a)[0] + sizeof -a + sizeof a[0][0] + sizeof a[];",
-        "int a[3], x; int n = 4ul + sizeof(x)++ + sizeof (a)[0] + sizeof -a + sizeof a[0][0] + sizeof a[];",
+        "int a[3], x; int n = 4ul + 4ul + sizeof (a)[0] + sizeof -a + sizeof a[0][0] + sizeof a[];",
     ),
     (
         "int n; int a[n]; int b = sizeof a;",
         "int n; int a[n]; int b = sizeof a;",
     ),
     ("int b = sizeof a; int a;", "int b = sizeof a; int a;"),
+    (
+        "int f(int), x; int n = sizeof f(x",
+        "int f(int), x; int n = sizeof f(x",
+    ),
     ("int a; int b = sizeof", "int a; int b = sizeof"),
     ("int a; int b = sizeof (a", "int a; int b = sizeof (a"),
     (

@@ -90,6 +90,25 @@ fn shape_in(alloc: Global, opened: Opened, bytes: u8, rest: &[Lexeme]) -> Result
     }
 }
 
+/// The name of a function of the library, or of its constant. Want of memory is the only error, here and below.
+fn getchar_name(alloc: Global) -> Result<Word, AllocError>
+    ensures { IfOk result (λ w. w ≡ walks.getchar_name) }
+{
+    Word::from_slice(alloc, b"getchar")
+}
+
+fn putchar_name(alloc: Global) -> Result<Word, AllocError>
+    ensures { IfOk result (λ w. w ≡ walks.putchar_name) }
+{
+    Word::from_slice(alloc, b"putchar")
+}
+
+fn eof_name(alloc: Global) -> Result<Word, AllocError>
+    ensures { IfOk result (λ w. w ≡ walks.eof_name) }
+{
+    Word::from_slice(alloc, b"EOF")
+}
+
 impl Walk {
     /// Before the first token of a unit. It takes no memory.
     pub fn new(alloc: Global) -> Walk
@@ -154,6 +173,18 @@ impl Walk {
         self.known.pass(alloc, self.nest.is_outside(), mark)
     }
 
+    /// Adds what an include of `<stdio.h>` declares. Want of memory is the only error.
+    fn add_library(&mut self, alloc: Global) -> Result<(), AllocError>
+        ensures { OnOk result (self.new ≡ walks.with_library self.old) }
+    {
+        let int = Shape::scalar(alloc, 4)?;
+        self.known.add(true, eof_name(alloc)?, int)?;
+        let put = Shape::function(alloc, 4);
+        self.known.add(true, putchar_name(alloc)?, put)?;
+        let get = Shape::function(alloc, 4);
+        self.known.add(true, getchar_name(alloc)?, get)
+    }
+
     /// Goes past a token, but for what stands in front. Want of memory is the only error.
     fn enter(&mut self, alloc: Global, form: &Form, rest: &[Lexeme]) -> Result<(), AllocError>
         ensures { OnOk result (self.new ≡ walks.past_form form.now rest.now self.old) }
@@ -161,6 +192,7 @@ impl Walk {
         match form {
             Form::Name(name) => self.add_declared(alloc, name, rest),
             Form::Mark(mark) => self.turn(alloc, *mark),
+            Form::Include => self.add_library(alloc),
             _ => Ok(()),
         }
     }

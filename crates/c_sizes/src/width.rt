@@ -93,7 +93,7 @@ impl Width {
     }
 
     /// That of so many bytes.
-    fn of_bytes(bytes: u64) -> Option<Width>
+    pub fn of_bytes(bytes: u64) -> Option<Width>
         ensures { result ≡ widths.of_bytes bytes }
     {
         if bytes == 1 {
@@ -110,7 +110,7 @@ impl Width {
     }
 
     /// What a constant for a size says.
-    fn of_constant(form: &Form) -> Option<Width>
+    pub fn of_constant(form: &Form) -> Option<Width>
         ensures { result ≡ widths.of_constant form.now }
     {
         match form {
@@ -118,16 +118,6 @@ impl Width {
                 value,
                 kind: Kind::ULong,
             } => Width::of_bytes(*value),
-            _ => None,
-        }
-    }
-
-    /// What stands for the size of a scalar.
-    pub fn of_forms(forms: &[Form]) -> Option<Width>
-        ensures { result ≡ widths.of_forms forms.now }
-    {
-        match forms {
-            [form] => Width::of_constant(form),
             _ => None,
         }
     }

@@ -175,9 +175,9 @@ pub const ROWS: &[Row] = &[
         "a.c:1:18: parse Syntax: 'goto' is left out: use loops, break, continue and return",
     ),
     (
-        "int main(void) { return sizeof(main()); }\n",
-        "a.c:1:25: parse Syntax: 'sizeof' is left out but for types, objects, constants and operations on them: \
-            write the number of bytes",
+        "void f(void);\nint main(void) { return sizeof(f()); }\n",
+        "a.c:2:25: parse Syntax: 'sizeof' does not stand here: sizeof takes a type, or a value of names declared \
+            before, so write the bytes",
     ),
     (
         "int *p;\n",
