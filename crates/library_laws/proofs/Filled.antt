@@ -26,7 +26,7 @@ turn_steps zero k = more 3 k
 turn_steps (suc m) k = more 10 (turn_steps m k)
 
 -- are 10 a turn, and three for the last test
-turns_are : (m k : ℕ) → turn_steps m k ≡ 10 * m + 3 + k
+pub turns_are : (m k : ℕ) → turn_steps m k ≡ 10 * m + 3 + k
 turns_are zero k = omega arith
 turns_are (suc m) k = let e : turn_steps m k ≡ 10 * m + 3 + k = turns_are m k in omega arith
 
@@ -53,7 +53,7 @@ module _ (P : TypedProgram) (l : Places) (f c : ℕ) (is_f : IsFunction P f (fil
       (turns m (j + 1) count s (out ++ (c % 256) ∷ []) k (omega arith) few))
 
   -- a count that is not negative
-  filled : (count : ℕ) (s : State) (k : ℕ) → count < 2 ^ 31 → HasRoom s 168
+  pub filled : (count : ℕ) (s : State) (k : ℕ) → count < 2 ^ 31 → HasRoom s 168
       → Calls P f (c ∷ count ∷ []) s (more 5 (turn_steps count (more 2 k))) count
       (record s { output = s.output ++ replicate count (c % 256) }) k
   filled count s k few room =
@@ -63,7 +63,7 @@ module _ (P : TypedProgram) (l : Places) (f c : ℕ) (is_f : IsFunction P f (fil
       (r_last (r_give (r_scalar refl)))))
 
   -- a negative one
-  none_filled : (count m : ℕ) (s : State) (k : ℕ) → 2 ^ 63 ≤ count → count + suc m ≡ 2 ^ 64 → HasRoom s 168
+  pub none_filled : (count m : ℕ) (s : State) (k : ℕ) → 2 ^ 63 ≤ count → count + suc m ≡ 2 ^ 64 → HasRoom s 168
       → Calls P f (c ∷ count ∷ []) s (more 10 k) 0 (record s { output = s.output ++ [] }) k
   none_filled count m s k large e room =
       calls_to (called_gives {code = code_of_fill l} s is_f refl (record { fits = room.fits; told = room.told })

@@ -7,5 +7,7 @@ pub mod NumeralFacts
 pub mod DigitsPrinted
 pub mod HexadecimalPrinted
 pub mod Filled
+pub mod CharacterPadded
 pub mod Counted
 pub mod NumeralsRight
+pub mod StandardFacts

@@ -1,5 +1,5 @@
 -- The operations of the printing functions on words: none of them overflows.
-use Rattle.std.proofs.Common.{◌≡◌, ℕ, suc, ◌+◌, ◌-◌, ◌/◌, ◌%◌, ◌^◌, ◌<◌, ◌≤◌, pos, negsuc, Bool, true, false, cond}
+use Rattle.std.proofs.Common.{◌≡◌, ◌≢◌, ℕ, suc, ◌+◌, ◌-◌, ◌/◌, ◌%◌, ◌^◌, ◌<◌, ◌≤◌, ◌⊎◌, inl, inr, pos, negsuc, Bool, true, false, cond}
 use Rattle.std.proofs.Common.{refl, Some, None, ap, ◌∙◌, arith, nat_eq}
 use Rattle.std.specs.Prelude.{not, int_lt, int_le, ◌+ℤ◌, ◌-ℤ◌}
 use Rattle.std.specs.Int.{w64}
@@ -15,7 +15,7 @@ use Rattle.c_tree.specs.declared.BinaryOp.TheVariants.{Subtract}
 use Rattle.c_tree.specs.declared.BinaryOp.TheVariants.{Divide, Remainder}
 use Rattle.c_constant.specs.Kinds.{number, word_of, in_kind, converted}
 use Rattle.c_constant.specs.Operation.{operate, operate_one, answer, provided, is_zero}
-use Rattle.c_constant.proofs.Conversions.{converted_is}
+use Rattle.c_constant.proofs.Conversions.{converted_is, order}
 
 -- a word below 2^63 as an int is this number
 pub int_is : (a : ℕ) → a < 2 ^ 63 → number Int a ≡ pos a
@@ -174,3 +174,41 @@ int_below a m h e =
 pub not_below : (a m : ℕ) → 2 ^ 63 ≤ a → a + suc m ≡ 2 ^ 64 → operate Less Int 0 a ≡ Some 0
 unfolding operate
 not_below a m h e = ap (λ z. word_of (answer (int_lt (number Int 0) z))) (int_below a m h e)
+
+-- DIFFERENCES
+
+-- `-` is equal to itself
+pub is_minus : operate Equal Int 45 45 ≡ Some 1
+unfolding operate
+is_minus = refl
+
+-- numbers that are not equal have a difference
+differ : (a b : ℕ) → a ≢ b → is_zero (pos a -ℤ pos b) ≡ false
+differ a b n = go (order a b) (order b a)
+  where
+    go : (a < b) ⊎ (b ≤ a) → (b < a) ⊎ (a ≤ b) → is_zero (pos a -ℤ pos b) ≡ false
+    go (inl l) o = grind (arith, common_steps, nat_tests)
+    go (inr m) (inl l) = grind (arith, common_steps, nat_tests)
+    go (inr m) (inr l) = absurd (n (omega arith))
+
+-- and two ints are not equal then
+pub other_int : (a b : ℕ) → a ≢ b → a < 2 ^ 31 → b < 2 ^ 31 → operate Equal Int a b ≡ Some 0
+unfolding operate
+other_int a b n h k =
+    ap (λ z. word_of (answer (is_zero (z -ℤ number Int b)))) (int_is a (omega arith))
+    ∙ ap (λ z. word_of (answer (is_zero (pos a -ℤ z)))) (int_is b (omega arith))
+    ∙ ap (λ (x : Bool). word_of (answer x)) (differ a b n)
+
+-- one less than an int
+pub less_one : (a : ℕ) → suc a < 2 ^ 31 → operate Subtract Int (suc a) 1 ≡ Some a
+unfolding operate
+less_one a h =
+    let e : pos (suc a) -ℤ pos 1 ≡ pos a = grind (arith, common_steps, nat_tests) in
+    ap (λ z. word_of (in_kind Int (z -ℤ number Int 1))) (int_is (suc a) (omega arith))
+    ∙ ap (λ z. word_of (in_kind Int z)) e
+    ∙ ap word_of (in_int a (omega arith))
+
+-- and than 0
+pub below_zero : operate Subtract Int 0 1 ≡ Some 18446744073709551615
+unfolding operate
+below_zero = refl

@@ -1,7 +1,8 @@
 -- The typed functions of the library that print parts of fields, as the table of `c_library` has their texts.
-use Rattle.std.specs.Prelude.{List, [], ◌∷◌, Some, ℕ}
+use Rattle.std.specs.Prelude.{List, [], ◌∷◌, Some, ℕ, ◌+◌}
 use Rattle.c_tree.specs.declared.token.Kind.TheVariants.{Int, ULong}
-use Rattle.c_tree.specs.declared.tree.BinaryOp.TheVariants.{Equal, NotEqual, Less, Add, Divide, Remainder}
+use Rattle.c_tree.specs.declared.tree.BinaryOp.TheVariants.{Equal, NotEqual, Less, Add, Subtract, Divide}
+use Rattle.c_tree.specs.declared.tree.BinaryOp.TheVariants.{Remainder}
 use Rattle.c_tree.specs.declared.typed.Slot.TheVariants as slot
 use Rattle.c_tree.specs.declared.typed.TypedFunc.{TypedFunc}
 use Rattle.library_laws.specs.Terms.{Term, number, scalar, convert, operation, choice, call, put, none, before}
@@ -106,4 +107,37 @@ size_counter l = record {
   scalars = slot.Scalar ULong ∷ slot.Scalar Int ∷ slot.Scalar Int ∷ [];
   arrays = [];
   body = body (code_of_size l);
+}
+
+-- PRINT.CHAR
+
+-- fill == 45
+abbrev pub is_left : Places → ℕ → Term
+is_left l i = operation (l (i + 1)) Int Equal (scalar (l i) Int 1) (number (l (i + 2)) Int 45)
+
+-- print.fill(32, width - 1)
+abbrev pub spare_spaces : Places → ℕ → ℕ → Term
+spare_spaces l i f =
+    call (l i) Int f (before (number (l (i + 2)) Int 32)
+    (before (operation (l (i + 5)) Int Subtract (scalar (l (i + 4)) Int 2) (number (l (i + 6)) Int 1)) none))
+
+-- int k = fill == 45 ? 0 : print.fill(32, width - 1); putchar(c); k++;
+-- return fill == 45 ? k + print.fill(32, width - 1) : k;
+abbrev pub code_of_character : Places → ℕ → List Code
+code_of_character l f =
+    initialise 3 (choice (l 19) Int (is_left l 16) (number (l 20) Int 0) (spare_spaces l 22 f))
+    ∷ plain (put (l 31) (scalar (l 33) Int 0))
+    ∷ plain (bump (l 37) (l 36) 3)
+    ∷ give (choice (l 43) Int (is_left l 40) (operation (l 45) Int Add (scalar (l 44) Int 3) (spare_spaces l 46 f))
+    (scalar (l 55) Int 3))
+    ∷ []
+
+-- int print.char(int c, int fill, int width), where print.fill is function f
+abbrev pub character_printer : Places → ℕ → TypedFunc
+character_printer l f = record {
+  result = Some Int;
+  params = 3;
+  scalars = slot.Scalar Int ∷ slot.Scalar Int ∷ slot.Scalar Int ∷ slot.Scalar Int ∷ [];
+  arrays = [];
+  body = body (code_of_character l f);
 }

@@ -1,5 +1,5 @@
 -- What the functions that print numbers do when they are called (C17 7.21.6.1).
-use Rattle.std.specs.Prelude.{◌≡◌, ℕ, suc, ◌+◌, ◌-◌, ◌*◌, ◌^◌, ◌<◌, ◌≤◌, List, [], ◌∷◌, ◌++◌, Some, slice_get, length}
+use Rattle.std.specs.Prelude.{◌≡◌, ◌≢◌, ℕ, suc, ◌+◌, ◌-◌, ◌*◌, ◌^◌, ◌<◌, ◌≤◌, List, [], ◌∷◌, ◌++◌, Some, slice_get, length}
 use Rattle.std.specs.Prelude.{◌%◌, replicate}
 use Rattle.std.specs.Prelude.{decimal, ℤ, pos, negsuc, unsigned_abs}
 use Rattle.std.specs.Fmt.{signed_decimal}
@@ -15,7 +15,8 @@ use Rattle.c_meaning_spec.specs.Eval.{meaning}
 use Rattle.c_tree.specs.declared.token.Kind.TheVariants.{Int, Long}
 use Rattle.c_constant.specs.Kinds.{number, IsWord}
 use Rattle.library_laws.specs.Printers.{Places, unsigned_printer, signed_printer, hexadecimal_printer}
-use Rattle.library_laws.specs.FieldPrinters.{digits_printer, fill_printer, size_counter}
+use Rattle.library_laws.specs.FieldPrinters.{digits_printer, fill_printer, size_counter, character_printer}
+use Rattle.library_laws.specs.Fields.{padded, fill_of}
 use Rattle.library_laws.specs.Numerals.{numeral, hexadecimal}
 
 -- the program has the function, by its number
@@ -126,3 +127,13 @@ CountsDigits =
     (P : TypedProgram) (l : Places) (f n base : ℕ) (s : State) → IsFunction P f (size_counter l) → n < 2 ^ 64
     → 2 ≤ base → base ≤ 36 → HasRoom s 168
     → Answers P f (n ∷ base ∷ []) s (9 * length (digits_of base n) + 10) (length (digits_of base n))
+
+-- PRINT.CHAR
+
+-- The byte of a character is written in a field, by spaces behind or, for another fill than `-`, in front: C17 gives
+-- `%c` no `0` (7.21.6.1, paragraph 6).
+abbrev pub PrintsCharacter : Type 0
+PrintsCharacter =
+    (P : TypedProgram) (l m : Places) (f g c fill width : ℕ) (s : State) → IsFunction P f (fill_printer l)
+    → IsFunction P g (character_printer m f) → fill < 2 ^ 31 → width < 2 ^ 31 → fill ≢ 48 → HasRoom s 344
+    → WritesWithin P g (c ∷ fill ∷ width ∷ []) s (10 * width + 36) (padded (fill_of fill) width [] ((c % 256) ∷ []))

@@ -1,8 +1,8 @@
 //! What the functions that print a number write (C17 7.21.6.1).
 
 ghost use Rattle.library_laws.specs.Numerals.{DecimalsAreNumerals, NumeralsAreDigits};
-ghost use Rattle.library_laws.specs.Printing.{CountsDigits, Fills, PrintsDigits, PrintsHexadecimal};
-ghost use Rattle.library_laws.specs.Printing.{PrintsSigned, PrintsUnsigned};
+ghost use Rattle.library_laws.specs.Printing.{CountsDigits, Fills, PrintsCharacter, PrintsDigits};
+ghost use Rattle.library_laws.specs.Printing.{PrintsHexadecimal, PrintsSigned, PrintsUnsigned};
 
 /// `print.u` writes the decimal numeral of each unsigned long, and gives its length.
 pub fn unsigned_is_printed()
@@ -27,6 +27,11 @@ pub fn digits_are_printed()
 /// `print.fill` writes a character so many times.
 pub fn characters_are_filled_in()
     ensures law { Fills }
+{}
+
+/// `print.char` writes a character in a field, which is padded by spaces in front or behind.
+pub fn characters_are_padded()
+    ensures law { PrintsCharacter }
 {}
 
 /// `print.size` counts the digits of each unsigned long in a base, none for 0, and writes nothing.

@@ -6,6 +6,7 @@
 mod law;
 
 pub use law::{
-    characters_are_filled_in, decimals_are_numerals, digits_are_counted, digits_are_printed,
-    hexadecimal_is_printed, numerals_stand_for_numbers, signed_is_printed, unsigned_is_printed,
+    characters_are_filled_in, characters_are_padded, decimals_are_numerals, digits_are_counted,
+    digits_are_printed, hexadecimal_is_printed, numerals_stand_for_numbers, signed_is_printed,
+    unsigned_is_printed,
 };
