@@ -9,7 +9,7 @@ use Rattle.commit_flush_spec.specs.Frames.{Frame}
 use Rattle.commit_flush_spec.specs.Window.{Window}
 use Rattle.grid_cycle_spec.specs.Cycles.{uncounted}
 use Rattle.grid_cycle_spec.specs.Grid.{Grid}
-use Rattle.grid_events.specs.Notes.{Note, Why}
+use Rattle.grid_events.specs.Notes.{MeshNote, Note, Why}
 use Rattle.grid_events.specs.Notes as note
 use Rattle.grid_events.specs.Counts.{tally, committed, fetched, flushed}
 use Rattle.grid_events.specs.Cycles.{NotedCycles, closing, told}
@@ -44,6 +44,16 @@ cause_sum note.Violation = refl
 cause_sum note.WrongExit = refl
 cause_sum note.End = refl
 
+-- nothing is flushed by what the mesh does
+mesh_sum : (m : MeshNote) → 0 ≡ weigh statistic.Violations (note.OnMesh m) + weigh statistic.WrongExits (note.OnMesh m)
+    + weigh statistic.Ends (note.OnMesh m)
+mesh_sum (note.Enters n p from to) = refl
+mesh_sum (note.Passes n p l) = refl
+mesh_sum (note.Waits n p l) = refl
+mesh_sum (note.Holds n p) = refl
+mesh_sum (note.Comes n p) = refl
+mesh_sum (note.Asks n k) = refl
+
 flush_sum : (x : Note) → flushed x ≡ weigh statistic.Violations x + weigh statistic.WrongExits x
     + weigh statistic.Ends x
 flush_sum (note.Begins k c) = refl
@@ -65,7 +75,7 @@ flush_sum (note.Seals n) = refl
 flush_sum (note.Commits n k) = refl
 flush_sum (note.Traps n k) = refl
 flush_sum (note.Flushes n why) = cause_sum why
-flush_sum (note.OnMesh m) = refl
+flush_sum (note.OnMesh m) = mesh_sum m
 
 -- so what is flushed adds up
 pub flushes_sum : (es : List Note) → tally flushed es ≡ tally (weigh statistic.Violations) es

@@ -1,27 +1,18 @@
 -- What is heard of the parts of a cycle makes what is heard of a cycle.
-use Rattle.std.proofs.Common.{◌≡◌, ℕ, ◌+◌, ◌*◌, List, [], ◌∷◌, ◌++◌, Option, Some, None, refl, sym, ap, ◌∙◌, subst}
+use Rattle.std.proofs.Common.{◌≡◌, ℕ, List, [], ◌++◌, refl, ap, ◌∙◌, subst}
 use Rattle.trips_isa.specs.declared.block.Block.{Block}
 use Rattle.trips_isa.specs.declared.run.Stepped.{Stepped}
 use Rattle.trips_isa.specs.declared.run.Stepped.TheVariants as stepped
-use Rattle.operand_net.specs.Places.{Places}
-use Rattle.grid_cycle_spec.specs.Grid.{Grid, numbers_of}
-use Rattle.grid_cycle_spec.specs.Banks.{bank_turn, reads_answered}
-use Rattle.grid_cycle_spec.specs.Choosing.{eldest, reads}
-use Rattle.grid_cycle_spec.specs.Stations.{bank_node, banks}
+use Rattle.grid_cycle_spec.specs.Grid.{Grid}
+use Rattle.grid_cycle_spec.specs.Banks.{reads_answered}
 use Rattle.grid_cycle_spec.specs.DataTiles.{answers}
 use Rattle.grid_cycle_spec.specs.Ends.{ends}
 use Rattle.grid_cycle_spec.specs.Fetches.{fetches}
-use Rattle.grid_cycle_spec.specs.Cycles.{Eager, Moves, acts, counted}
-use Rattle.commit_flush_spec.specs.Frames.{first_read_place}
-use Rattle.commit_flush_spec.specs.Window.{Window, happens}
-use Rattle.commit_flush_spec.specs.Window as window
-use Rattle.grid_cycle_spec.specs.Banks.{answers_read}
+use Rattle.grid_cycle_spec.specs.Cycles.{Eager, acts, counted}
 use Rattle.grid_events.specs.Notes.{Note}
-use Rattle.grid_events.specs.Notes as note
-use Rattle.grid_events.specs.Turns.{of_frame}
-use Rattle.grid_events.specs.Parts.{acts_notes, answers_notes, bank_notes, both_notes, ends_notes, fetches_notes}
-use Rattle.grid_events.specs.Parts.{read_notes, reads_notes, works_notes}
-use Rattle.grid_events.specs.Cycles.{Goes, Noted, NotedFollows, moves_notes}
+use Rattle.grid_events.specs.Parts.{acts_notes, answers_notes, ends_notes, fetches_notes}
+use Rattle.grid_events.specs.Parts.{reads_notes, works_notes}
+use Rattle.grid_events.specs.Cycles.{Goes, NotedFollows, moves_notes}
 use Rattle.grid_events.proofs.Runs.{is_eager}
 use Rattle.grid_tallies.specs.declared.counters.Counters.{Counters}
 use Rattle.grid_tallies.specs.declared.guess_table.Guesses.{Guesses}
@@ -30,34 +21,20 @@ use Rattle.grid_tallies.specs.Counters.{Hears}
 use Rattle.grid_tallies.specs.Predictions.{Guessed}
 use Rattle.grid_tallies.specs.Statistics.{Heard}
 use Rattle.grid_tallies.specs.Cycles.{GoesCounted, IsCounted}
-use Rattle.grid_tallies.specs.inside.Adding.{Nothing}
 use Rattle.grid_tallies.specs.inside.Moving.{MovesCounted}
 use Rattle.grid_tallies.proofs.Guessing.{guessed_both, guessed_none}
 use Rattle.grid_tallies.proofs.Hearing.{hears_both, hears_none}
 use Rattle.grid_tallies.proofs.Quiet.{quiet_answers, quiet_both, quiet_ends, quiet_reads, quiet_works}
-use Rattle.grid_tallies.proofs.Tallying.{heard_both, heard_none}
-use Rattle.grid_tallies.proofs.Weighed.{nothing_cons, nothing_each, nothing_enter_both, nothing_frame}
+use Rattle.grid_tallies.proofs.Tallying.{heard_both}
 
 module _ {W : Type 0} (blocks : List Block) (budget : ℕ) where
-  nothing_read : (bank : ℕ) (o : Option (ℕ × ℕ)) (g : Grid W) → Nothing (read_notes blocks budget bank o g)
-  nothing_read bank None g = λ s. refl
-  nothing_read bank (Some q) g =
-      let w : Window = happens blocks budget (window.Read q.0 q.1) g.window in
-      let place : ℕ = first_read_place + 2 * q.1 in
-      nothing_cons (note.Reads bank q.0 q.1) (of_frame q.0 (λ f. both_notes (bank_node bank) f place) w.frames) refl
-      (nothing_frame q.0 (λ f. both_notes (bank_node bank) f place)
-      (λ f. nothing_enter_both (bank_node bank) f place) w.frames)
-
-  nothing_reads : (g : Grid W) → Nothing (reads_notes blocks budget g)
-  nothing_reads g = nothing_each (bank_turn blocks budget) (bank_notes blocks budget)
-      (λ bank x. nothing_read bank (eldest (answers_read blocks budget x bank) reads x.window.frames) x) banks g
-
   -- parts (2) to (5)
-  acts_heard : (g x y z : Grid W) (a b c d : Tallies) → x ≡ fetches blocks budget g
+  acts_heard : (g x y z : Grid W) (a b r c d : Tallies) → x ≡ fetches blocks budget g
       → y ≡ reads_answered blocks budget x → z ≡ answers blocks budget y
-      → Heard a (fetches_notes blocks budget g) b → Heard b (answers_notes blocks budget y) c
-      → Heard c (works_notes blocks budget z) d → Heard a (acts_notes blocks budget g) d
-  acts_heard g x y z a b c d e f i fetch answer work =
+      → Heard a (fetches_notes blocks budget g) b → Heard b (reads_notes blocks budget x) r
+      → Heard r (answers_notes blocks budget y) c → Heard c (works_notes blocks budget z) d
+      → Heard a (acts_notes blocks budget g) d
+  acts_heard g x y z a b r c d e f i fetch read answer work =
       let g2 : Grid W = fetches blocks budget g in
       let g3 : Grid W = reads_answered blocks budget g2 in
       let g4 : Grid W = answers blocks budget g3 in
@@ -65,11 +42,11 @@ module _ {W : Type 0} (blocks : List Block) (budget : ℕ) where
       let z4 : z ≡ g4 = i ∙ ap (answers blocks budget) y3 in
       heard_both a b d (fetches_notes blocks budget g)
       (reads_notes blocks budget g2 ++ (answers_notes blocks budget g3 ++ works_notes blocks budget g4)) fetch
-      (heard_both b b d (reads_notes blocks budget g2) (answers_notes blocks budget g3 ++ works_notes blocks budget
+      (heard_both b r d (reads_notes blocks budget g2) (answers_notes blocks budget g3 ++ works_notes blocks budget
       g4)
-      (heard_none b (reads_notes blocks budget g2) (nothing_reads g2))
-      (heard_both b c d (answers_notes blocks budget g3) (works_notes blocks budget g4)
-      (subst (λ (k : Grid W). Heard b (answers_notes blocks budget k) c) y3 answer)
+      (subst (λ (k : Grid W). Heard b (reads_notes blocks budget k) r) e read)
+      (heard_both r c d (answers_notes blocks budget g3) (works_notes blocks budget g4)
+      (subst (λ (k : Grid W). Heard r (answers_notes blocks budget k) c) y3 answer)
       (subst (λ (k : Grid W). Heard c (works_notes blocks budget k) d) z4 work)))
 
   -- of guesses part (2) alone tells
@@ -88,13 +65,13 @@ module _ {W : Type 0} (blocks : List Block) (budget : ℕ) where
       (quiet_works blocks budget g4))))
 
   -- parts (2) to (5), each heard where it is counted
-  pub acts_hear : (g x y z : Grid W) (a b : Counters) (c d : Tallies) → x ≡ fetches blocks budget g
+  pub acts_hear : (g x y z : Grid W) (a b : Counters) (r c d : Tallies) → x ≡ fetches blocks budget g
       → y ≡ reads_answered blocks budget x → z ≡ answers blocks budget y
-      → Hears a (fetches_notes blocks budget g) b → Heard b.tallies (answers_notes blocks budget y) c
-      → Heard c (works_notes blocks budget z) d
+      → Hears a (fetches_notes blocks budget g) b → Heard b.tallies (reads_notes blocks budget x) r
+      → Heard r (answers_notes blocks budget y) c → Heard c (works_notes blocks budget z) d
       → Hears a (acts_notes blocks budget g) (record { tallies = d; guesses = b.guesses })
-  acts_hear g x y z a b c d e f i fetch answer work = record {
-    tallies = acts_heard g x y z a.tallies b.tallies c d e f i fetch.tallies answer work;
+  acts_hear g x y z a b r c d e f i fetch read answer work = record {
+    tallies = acts_heard g x y z a.tallies b.tallies r c d e f i fetch.tallies read answer work;
     guesses = acts_guessed g a.guesses b.guesses fetch.guesses;
   }
 

@@ -1,7 +1,7 @@
 -- What the notes of the ends of frames and of arrivals count for: their flushes, and nothing else.
-use Rattle.std.proofs.Common.{◌≡◌, ℕ, zero, suc, ◌+◌, ◌-◌, ◌/◌, ◌==◌, Bool, true, false, cond, nat_lt, List, []}
+use Rattle.std.proofs.Common.{◌≡◌, ℕ, zero, suc, ◌-◌, ◌/◌, ◌==◌, Bool, true, false, cond, nat_lt, List, []}
 use Rattle.std.proofs.Common.{◌∷◌, ◌++◌}
-use Rattle.std.proofs.Common.{Option, Some, None, length, get_or, refl, sym, ap, subst, arith}
+use Rattle.std.proofs.Common.{Option, Some, None, refl, sym, ap, subst, arith}
 use Rattle.trips_isa.specs.declared.block.Block.{Block}
 use Rattle.trips_isa.specs.declared.block.Inst.{Inst}
 use Rattle.trips_isa.specs.declared.form.Form.{Form}
@@ -10,12 +10,8 @@ use Rattle.trips_isa.specs.declared.run.Stepped.{Stepped}
 use Rattle.trips_isa.specs.declared.run.Stepped.TheVariants as stepped
 use Rattle.trips_isa.specs.Forms.{form_of}
 use Rattle.block_cases.specs.Orders.{slot_of}
-use Rattle.operand_net.specs.Places.{Places}
-use Rattle.operand_net.specs.Tick.{frames_want, is_free, link_of}
 use Rattle.operand_net.specs.inside.Places.{come, without}
 use Rattle.operand_net.specs.declared.parcel.Parcel.{Parcel}
-use Rattle.operand_net.specs.declared.parcel.Stand.{Stand}
-use Rattle.operand_net.specs.declared.parcel.Stand.TheVariants as stand
 use Rattle.commit_flush_spec.specs.Frames.{Frame, at, first_read_place}
 use Rattle.commit_flush_spec.specs.Window.{Window, happens}
 use Rattle.commit_flush_spec.specs.Window as window
@@ -30,7 +26,6 @@ use Rattle.grid_events.specs.Notes as note
 use Rattle.grid_events.specs.Counts.{tally, flushed}
 use Rattle.grid_events.specs.Turns.{of_each, of_frame, flushes, gives_up}
 use Rattle.grid_events.specs.Parts as part
-use Rattle.grid_events.specs.Mesh.{below, held_notes, moved_notes, row_notes, tick_notes}
 use Rattle.grid_events.specs.Laws.{Tells}
 use Rattle.grid_events.proofs.Walk.{arrivals_keep, ends_keep}
 use Rattle.grid_events.proofs.Telling.{keeps}
@@ -38,9 +33,9 @@ use Rattle.grid_tallies.specs.declared.statistic.Statistic.{Statistic}
 use Rattle.grid_tallies.specs.declared.statistic.Statistic.TheVariants as statistic
 use Rattle.grid_tallies.specs.declared.tallies.Tallies.{Tallies}
 use Rattle.grid_tallies.specs.Statistics.{Heard}
-use Rattle.grid_tallies.specs.inside.Adding.{Adds, Nothing, Only, OnlyFlushes}
+use Rattle.grid_tallies.specs.inside.Adding.{Adds, Only, OnlyFlushes}
 use Rattle.grid_tallies.proofs.Tallying.{heard_adds}
-use Rattle.grid_tallies.proofs.Weighed.{flushes_both, flushes_given, flushes_none, flushes_only, nothing_both}
+use Rattle.grid_tallies.proofs.Weighed.{flushes_both, flushes_given, flushes_none, flushes_only}
 
 module _ (k : Statistic) where
   flushes_empty : OnlyFlushes k []
@@ -203,41 +198,3 @@ module _ {W : Type 0} (blocks : List Block) (budget : ℕ) where
       let all : by ≡ tally flushed es = omega (arith, told, same, many) in
       heard_adds statistic.WrongExits by a b es adds
       (subst (λ n. Only statistic.WrongExits n es) (sym all) (arrivals_only ns g))
-
--- the tick of the mesh -----------------------------------------------------------------------------
-
-nothing_below : (notes : ℕ → List Note) → ((n : ℕ) → Nothing (notes n)) → (n : ℕ) → Nothing (below notes n)
-nothing_below notes none zero = λ s. refl
-nothing_below notes none (suc n) =
-    nothing_both (below notes n) (notes n) (nothing_below notes none n) (none n)
-
-nothing_moved : (free : Bool) (n p : ℕ) (s : Stand) → Nothing (moved_notes free n p s)
-nothing_moved free n p stand.Nowhere = λ k. refl
-nothing_moved free n p (stand.Held trip h) = λ k. refl
-nothing_moved free n p (stand.Away trip a) = go (a == trip.to) free
-  where
-    go : (b c : Bool) → Nothing (cond b [] (cond c (note.OnMesh (note.Passes n p (link_of a trip.to)) ∷ [])
-        (note.OnMesh (note.Waits n p (link_of a trip.to)) ∷ [])))
-    go true c = λ k. refl
-    go false true = λ k. refl
-    go false false = λ k. refl
-
-nothing_held : (n p : ℕ) (s : Stand) → Nothing (held_notes n p s)
-nothing_held n p stand.Nowhere = λ k. refl
-nothing_held n p (stand.Away trip a) = λ k. refl
-nothing_held n p (stand.Held trip zero) = λ k. refl
-nothing_held n p (stand.Held trip (suc h)) = λ k. refl
-
-nothing_row : (taken : ℕ → Bool) (n : ℕ) (before after : ℕ → Stand) → Nothing (row_notes taken n before after)
-nothing_row taken n before after = nothing_below
-    (λ p. moved_notes (is_free taken before p (before p)) n p (before p) ++ held_notes n p (after p))
-    (λ p. nothing_both (moved_notes (is_free taken before p (before p)) n p (before p)) (held_notes n p (after p))
-    (nothing_moved (is_free taken before p (before p)) n p (before p)) (nothing_held n p (after p))) places
-
--- what a tick notes is not counted
-pub nothing_ticked : (order : List ℕ) (before after : Places) → Nothing (tick_notes order before after)
-nothing_ticked order before after = nothing_below
-    (λ a. row_notes (frames_want a before order) (get_or order a 0) (before (get_or order a 0))
-    (after (get_or order a 0)))
-    (λ a. nothing_row (frames_want a before order) (get_or order a 0) (before (get_or order a 0))
-    (after (get_or order a 0))) (length order)

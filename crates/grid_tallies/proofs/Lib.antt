@@ -7,6 +7,9 @@ pub mod Hearing
 pub mod Weighed
 pub mod Summed
 pub mod Quiet
+pub mod Entered
+pub mod Unread
+pub mod Travelled
 pub mod Flushing
 pub mod Answering
 pub mod Turning

@@ -5,7 +5,7 @@ use Rattle.grid_events.specs.Counts.{tally}
 use Rattle.grid_events.specs.Notes.{Violation, WrongExit, End, Predicts, Begins, Works, Fires, Loads, Stores}
 use Rattle.grid_events.specs.Notes.{Flushes}
 use Rattle.grid_events.specs.Notes.{OnMesh}
-use Rattle.grid_events.specs.Notes.{Passes}
+use Rattle.grid_events.specs.Notes.{Enters, Holds, Passes, Waits}
 use Rattle.grid_tallies.specs.declared.statistic.Statistic.TheVariants as statistic
 use Rattle.grid_tallies.specs.Statistics.{statistic_of, weigh}
 
@@ -29,12 +29,22 @@ wrong_exit = refl
 pub end : statistic_of (Flushes 2 End) ≡ Some statistic.Ends
 end = refl
 
--- a fetch that begins is no prediction, and a link counts for nothing
+-- a fetch that begins is no prediction
 pub begins : statistic_of (Begins 4 true) ≡ None
 begins = refl
 
-pub link : statistic_of (OnMesh (Passes 0 5 31)) ≡ None
+-- a parcel that enters, a link that one takes, a cycle that one waits, and one that is held at its end
+pub parcel : statistic_of (OnMesh (Enters 0 5 6 7)) ≡ Some statistic.Parcels
+parcel = refl
+
+pub link : statistic_of (OnMesh (Passes 0 5 31)) ≡ Some statistic.Links
 link = refl
+
+pub wait : weigh statistic.Links (OnMesh (Waits 0 5 31)) ≡ 0
+wait = refl
+
+pub held : statistic_of (OnMesh (Holds 0 5)) ≡ None
+held = refl
 
 -- a cycle of the unit of tile 5 counts for this tile, and not for its neighbour
 pub works : weigh (statistic.Station 5) (Works 5) ≡ 1

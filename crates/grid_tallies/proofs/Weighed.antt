@@ -1,19 +1,18 @@
 -- What the notes of the parts of a cycle count for.
-use Rattle.std.proofs.Common.{◌≡◌, ◌<◌, ℕ, zero, suc, ◌+◌, ◌==◌, Bool, true, false, cond, List, [], ◌∷◌, ◌++◌, length}
-use Rattle.std.proofs.Common.{Option, Some, None, is_some, refl, sym, ap, ◌∙◌, arith}
+use Rattle.std.proofs.Common.{◌≡◌, ◌<◌, ℕ, zero, suc, ◌+◌, ◌==◌, Bool, true, false, cond, List, [], ◌∷◌, ◌++◌}
+use Rattle.std.proofs.Common.{Option, Some, None, refl, sym, ap, ◌∙◌, arith}
 use Rattle.std.proofs.lemmas.Bool.{ne_eqb}
-use Rattle.commit_flush_spec.specs.Frames.{Frame, at, target}
+use Rattle.commit_flush_spec.specs.Frames.{Frame}
 use Rattle.grid_cycle_spec.specs.Grid.{Fetching}
-use Rattle.grid_cycle_spec.specs.Stations.{home}
 use Rattle.grid_cycle_spec.specs.Choosing.{each}
 use Rattle.grid_events.specs.Notes.{Note, Why}
 use Rattle.grid_events.specs.Notes as note
 use Rattle.grid_events.specs.Counts.{tally, flushed}
 use Rattle.grid_events.specs.Turns.{of_each, of_frame, flushes, gives_up}
-use Rattle.grid_events.specs.StationNotes.{enters_if_notes, both_notes}
 use Rattle.grid_tallies.specs.declared.statistic.Statistic.{Statistic}
+use Rattle.grid_tallies.specs.declared.tallies.Tallies.{Tallies}
 use Rattle.grid_tallies.specs.Statistics.{cause_of, is_one, place, statistic_of, weigh}
-use Rattle.grid_tallies.specs.inside.Adding.{Nothing, Only, OnlyFlushes}
+use Rattle.grid_tallies.specs.inside.Adding.{Adds, Nothing, Only, OnlyFlushes}
 use Rattle.grid_tallies.proofs.Tallying.{joined, only_both}
 
 -- notes that count nothing -----------------------------------------------------------------------
@@ -52,20 +51,6 @@ nothing_each turn notes none zero g = λ s. refl
 nothing_each turn notes none (suc n) g = nothing_both (of_each turn notes n g) (notes n (each turn n g))
     (nothing_each turn notes none n g) (none n (each turn n g))
 
--- a token enters the mesh, where there is one
-pub nothing_enters : (from : ℕ) (f : Frame) (place : ℕ) → Nothing (enters_if_notes from f place)
-nothing_enters from f place = go (is_some (at f.places place))
-  where
-    go : (b : Bool) → Nothing (cond b
-        (note.OnMesh (note.Enters f.number place from (home f.code (target f.code place))) ∷ []) [])
-    go true = λ s. refl
-    go false = λ s. refl
-
--- both tokens of a node enter
-pub nothing_enter_both : (from : ℕ) (f : Frame) (place : ℕ) → Nothing (both_notes from f place)
-nothing_enter_both from f place = nothing_both (enters_if_notes from f place) (enters_if_notes from f (suc place))
-    (nothing_enters from f place) (nothing_enters from f (suc place))
-
 -- a fetch is given up, or none is
 pub nothing_given : (a b : Option Fetching) → Nothing (gives_up a b)
 nothing_given None b = λ s. refl
@@ -89,14 +74,20 @@ only_first x k es is rest = λ s.
     omega (arith, one, e)
 
 -- a cycle of a unit counts for no statistic but that of its tile
-pub works_none : (s : Statistic) (tile : ℕ) → place s < 9 → weigh s (note.Works tile) ≡ 0
-works_none s tile l = ap (λ c. cond c 1 0) (ne_eqb (place s) (9 + tile) (λ z. omega (arith, l, z)))
+pub works_none : (s : Statistic) (tile : ℕ) → place s < 12 → weigh s (note.Works tile) ≡ 0
+works_none s tile l = ap (λ c. cond c 1 0) (ne_eqb (place s) (12 + tile) (λ z. omega (arith, l, z)))
 
 -- flushes ----------------------------------------------------------------------------------------
 
 none_of : (c : Bool) (n : ℕ) → n ≡ 0 → cond c n 0 ≡ 0
 none_of true n e = e
 none_of false n e = refl
+
+-- no more of a statistic changes nothing
+pub adds_none : (k : Statistic) (by : ℕ) (a : Tallies) → by ≡ 0 → Adds k by a a
+adds_none k by a e = λ s room.
+    let none = none_of (place s == place k) by e in
+    omega (arith, none)
 
 -- notes that count nothing and are no flushes
 pub flushes_none : (k : Statistic) (es : List Note) → Nothing es → tally flushed es ≡ 0 → OnlyFlushes k es

@@ -4,7 +4,7 @@ use Rattle.std.specs.Prelude.{drop, slice_index_or}
 use Rattle.trips_isa.specs.declared.op.Op.{Op}
 use Rattle.trips_isa.specs.declared.op.Op.TheVariants.{Mov, Null}
 use Rattle.grid_events.specs.Notes.{Note, Why, Violation, WrongExit, End, Predicts, Works, Fires, Loads, Stores}
-use Rattle.grid_events.specs.Notes.{Flushes}
+use Rattle.grid_events.specs.Notes.{Flushes, MeshNote, OnMesh, Enters, Passes, Waits}
 use Rattle.grid_events.specs.Counts.{tally}
 use Rattle.grid_tallies.specs.declared.statistic.Statistic.{Statistic}
 use Rattle.grid_tallies.specs.declared.statistic.Statistic.TheVariants as statistic
@@ -21,7 +21,10 @@ place statistic.Violations = 5
 place statistic.WrongExits = 6
 place statistic.Ends = 7
 place statistic.Predictions = 8
-place (statistic.Station tile) = 9 + tile
+place statistic.Parcels = 9
+place statistic.Links = 10
+place statistic.Waits = 11
+place (statistic.Station tile) = 12 + tile
 
 -- what an operation that fires counts for
 abbrev pub kind_of : Option Op → Statistic
@@ -35,6 +38,13 @@ cause_of Violation = statistic.Violations
 cause_of WrongExit = statistic.WrongExits
 cause_of End = statistic.Ends
 
+-- what a note of the mesh counts for: a parcel enters, takes a link, or waits for one
+abbrev pub traffic_of : MeshNote → Option Statistic
+traffic_of (Enters n p from to) = Some statistic.Parcels
+traffic_of (Passes n p l) = Some statistic.Links
+traffic_of (Waits n p l) = Some statistic.Waits
+traffic_of _ = None
+
 -- the statistic for which a note counts, if it counts for any
 abbrev pub statistic_of : Note → Option Statistic
 statistic_of (Works tile) = Some (statistic.Station tile)
@@ -43,6 +53,7 @@ statistic_of (Loads tile n m) = Some statistic.Loads
 statistic_of (Stores tile n m null) = Some statistic.Stores
 statistic_of (Flushes n why) = Some (cause_of why)
 statistic_of (Predicts n k) = Some statistic.Predictions
+statistic_of (OnMesh m) = traffic_of m
 statistic_of _ = None
 
 -- whether a statistic is this one
@@ -60,7 +71,7 @@ number_of s t = slice_index_or t.numbers (place s) 0
 
 -- in how many cycles the unit of each tile was busy, from tile 0
 abbrev pub stations_of : Tallies → List ℕ
-stations_of t = drop 9 t.numbers
+stations_of t = drop 12 t.numbers
 
 -- the second tallies are the first after these notes more, while the numbers have room in 64 bits
 abbrev pub Heard : Tallies → List Note → Tallies → Type 0

@@ -1,4 +1,6 @@
 pub mod Adding
+pub mod Entering
 pub mod Fetching
 pub mod Leaving
 pub mod Moving
+pub mod Travelling

@@ -7,12 +7,14 @@ ghost use Rattle.grid_tallies.specs.Cycles.{GoesCounted, IsCounted};
 ghost use Rattle.grid_tallies.specs.inside.Moving.{MovesCounted};
 
 use crate::arriving::arrivals;
+use crate::banks::reads_answered;
 use crate::counters::Counters;
 use crate::data_tiles::answers;
 use crate::ends::ends;
 use crate::fetches::fetches;
 use crate::leading::Leading;
 use crate::statistic::Statistic;
+use crate::travelling;
 use crate::units::works_on;
 use grid_parts::Grid;
 use operand_net::Weather;
@@ -29,6 +31,7 @@ fn moves<V: Leading, W: Weather>(grid: &mut Grid<V, W>, told: &mut Counters)
     ensures budget { V.budget grid.new.window ≡ V.budget grid.old.window }
 {
     let frames = grid.window.numbers();
+    travelling::moves(&grid.state.mesh, &mut told.tallies, frames.as_slice());
     grid.state.tick(frames.as_slice());
     let before = grid.state.counts.flushed;
     arrivals(grid, &mut told.guesses, frames.as_slice());
@@ -48,7 +51,7 @@ fn goes_on<V: Leading, W: Weather>(grid: &mut Grid<V, W>, told: &mut Counters)
     ensures budget { V.budget grid.new.window ≡ V.budget grid.old.window }
 {
     fetches(grid, told);
-    grid.reads_answered();
+    reads_answered(grid, &mut told.tallies);
     answers(grid, &mut told.tallies);
     works_on(grid, &mut told.tallies);
     moves(grid, told);

@@ -5,11 +5,12 @@ ghost use Rattle.grid_events.specs.StationNotes as noted;
 ghost use Rattle.grid_parts.specs.Seen.{seen};
 ghost use Rattle.trips_isa.specs.Forms as forms;
 ghost use Rattle.grid_tallies.specs.Statistics.{Heard};
-ghost use Rattle.grid_tallies.specs.inside.Adding.{AnswersHeard};
+ghost use Rattle.grid_tallies.specs.inside.Adding.{AnswersHeard, TokensHeard};
 
+use crate::entering::tokens_at;
 use crate::statistic::Statistic;
 use crate::tallies::Tallies;
-use grid_parts::{Grid, Windows, answerable};
+use grid_parts::{Grid, Windows, answerable, any_asked};
 use trips_isa::{Form, Op, form_of};
 
 // Whether an operation is a store.
@@ -48,6 +49,18 @@ fn count(told: &mut Tallies, store: bool, flushed: u64)
     }
 }
 
+// The tokens of a load that was answered enter the mesh; a store has none.
+fn count_entering<V: Windows>(window: &V, told: &mut Tallies, store: bool, frame: u8, slot: u8)
+    requires frame { frame < 8 }
+    requires slot { slot < 128 }
+    ensures { TokensHeard store frame slot (V.held window.now).frames told.old told.new }
+{
+    if !store {
+        let entered = tokens_at(window, frame, 2 * slot as u16);
+        told.add(Statistic::Parcels, entered);
+    }
+}
+
 // The answer to what waits with a number in a frame, where anything does.
 fn answered<V: Windows, W>(
     grid: &mut Grid<V, W>,
@@ -75,7 +88,9 @@ fn answered<V: Windows, W>(
     match request {
         Some(request) => {
             let flushed = grid.state.counts.flushed.saturating_sub(before);
-            count(told, is_store(request.inst.op), flushed);
+            let store = is_store(request.inst.op);
+            count(told, store, flushed);
+            count_entering(&grid.window, told, store, frame, request.slot);
         }
         None => {}
     }
@@ -101,8 +116,8 @@ fn data_turn<V: Windows, W>(grid: &mut Grid<V, W>, told: &mut Tallies, tile: u8)
     }
 }
 
-/// Part (4).
-pub fn answers<V: Windows, W>(grid: &mut Grid<V, W>, told: &mut Tallies)
+// Each data tile answers.
+fn answer_tiles<V: Windows, W>(grid: &mut Grid<V, W>, told: &mut Tallies)
     requires { grid.old.state.counts.flushed + 32 < 2 ^ 64 }
     ensures change { seen (V.held grid.new.window) grid.new.state
         ≡ spec.answers (V.blocks grid.old.window) (V.budget grid.old.window)
@@ -114,5 +129,22 @@ pub fn answers<V: Windows, W>(grid: &mut Grid<V, W>, told: &mut Tallies)
 {
     for tile in 0..4u8 {
         data_turn(grid, told, tile);
+    }
+}
+
+/// Part (4). Where no request stands at its data tile none has its turn.
+pub fn answers<V: Windows, W>(grid: &mut Grid<V, W>, told: &mut Tallies)
+    requires { grid.old.state.counts.flushed + 32 < 2 ^ 64 }
+    ensures change { seen (V.held grid.new.window) grid.new.state
+        ≡ spec.answers (V.blocks grid.old.window) (V.budget grid.old.window)
+        (seen (V.held grid.old.window) grid.old.state) }
+    ensures heard { Heard told.old (noted.answers_notes (V.blocks grid.old.window) (V.budget grid.old.window)
+        (seen (V.held grid.old.window) grid.old.state)) told.new }
+    ensures image { V.blocks grid.new.window ≡ V.blocks grid.old.window }
+    ensures budget { V.budget grid.new.window ≡ V.budget grid.old.window }
+{
+    let frames = grid.window.numbers();
+    if any_asked(&grid.state, frames.as_slice()) {
+        answer_tiles(grid, told);
     }
 }

@@ -7,10 +7,12 @@
 #![tactic(auto)]
 
 mod arriving;
+mod banks;
 mod counters;
 mod cycling;
 mod data_tiles;
 mod ends;
+mod entering;
 mod fetches;
 mod flights;
 mod guess_table;
@@ -19,6 +21,7 @@ mod leading;
 mod running;
 mod statistic;
 mod tallies;
+mod travelling;
 mod units;
 
 pub use counters::Counters;
@@ -26,7 +29,7 @@ pub use cycling::cycle;
 pub use fetches::{fetch_of, filled, guesses, may_fill, open_youngest};
 pub use flights::Flights;
 pub use guess_table::Guesses;
-pub use law::{counted_cycles_are_eager, statistics_add_up};
+pub use law::{counted_cycles_are_eager, mesh_statistics_are_its_notes, statistics_add_up};
 pub use leading::{Leading, leads_in};
 pub use running::{close, cycles};
 pub use statistic::Statistic;

@@ -25,15 +25,21 @@ pub enum Statistic {
     Ends,
     /// next blocks predicted
     Predictions,
+    /// parcels of the operand network
+    Parcels,
+    /// links that parcels pass
+    Links,
+    /// cycles that parcels wait for a link
+    Waits,
     /// cycles in which the unit of this tile was busy
     Station(u8),
 }
 
 /// Where the number of a statistic stands. There are sixteen tiles.
 pub fn place(statistic: Statistic) -> u8
-    requires { spec.place statistic < 25 }
+    requires { spec.place statistic < 28 }
     ensures value { result ≡ spec.place statistic }
-    ensures within { result < 25 }
+    ensures within { result < 28 }
 {
     match statistic {
         Statistic::Movs => 0,
@@ -45,7 +51,10 @@ pub fn place(statistic: Statistic) -> u8
         Statistic::WrongExits => 6,
         Statistic::Ends => 7,
         Statistic::Predictions => 8,
-        Statistic::Station(tile) => 9 + tile,
+        Statistic::Parcels => 9,
+        Statistic::Links => 10,
+        Statistic::Waits => 11,
+        Statistic::Station(tile) => 12 + tile,
     }
 }
 

@@ -8,7 +8,7 @@ use crate::statistic::{Statistic, place};
 /// A number for each statistic. Each is exact while it has room in 64 bits.
 #[derive(Clone, Copy, Debug)]
 pub struct Tallies {
-    pub numbers: [u64; 25],
+    pub numbers: [u64; 28],
 }
 
 /// So many more.
@@ -23,12 +23,12 @@ impl Tallies {
     pub fn none() -> Tallies
         ensures { AreOf [] result }
     {
-        Tallies { numbers: [0; 25] }
+        Tallies { numbers: [0; 28] }
     }
 
     /// The number of a statistic.
     pub fn get(&self, statistic: Statistic) -> u64
-        requires { place statistic < 25 }
+        requires { place statistic < 28 }
         ensures { result ≡ number_of statistic self.now }
     {
         self.numbers[place(statistic) as usize]
@@ -39,13 +39,13 @@ impl Tallies {
         ensures { result ≡ stations_of self.now }
     {
         let mut cycles = [0u64; 16];
-        cycles.copy_from_slice(&self.numbers[9..]);
+        cycles.copy_from_slice(&self.numbers[12..]);
         cycles
     }
 
     /// So many more of a statistic.
     pub fn add(&mut self, statistic: Statistic, by: u64)
-        requires { place statistic < 25 }
+        requires { place statistic < 28 }
         ensures { Adds statistic by self.old self.new }
     {
         let place = place(statistic) as usize;

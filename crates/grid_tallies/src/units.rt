@@ -12,6 +12,7 @@ ghost use Rattle.grid_tallies.specs.declared.statistic.Statistic.TheVariants as 
 ghost use Rattle.grid_tallies.specs.Statistics.{Heard};
 ghost use Rattle.grid_tallies.specs.inside.Adding.{Adds};
 
+use crate::entering::given;
 use crate::statistic::{Statistic, kind_of};
 use crate::tallies::Tallies;
 use grid_parts::{Grid, Windows, lowest_on, marked_slots, ready_slot};
@@ -118,6 +119,15 @@ fn count_work(told: &mut Tallies, tile: u8, left: u8)
     told.add(Statistic::Station(tile), one_busy(left));
 }
 
+// What a unit gives is counted.
+fn count_given(told: &mut Tallies, parcels: u64)
+    ensures { Adds statistic.Parcels parcels told.old told.new }
+{
+    if parcels > 0 {
+        told.add(Statistic::Parcels, parcels);
+    }
+}
+
 /// Part (5).
 pub fn works_on<V: Windows, W>(grid: &mut Grid<V, W>, told: &mut Tallies)
     ensures change { seen (V.held grid.new.window) grid.new.state
@@ -132,6 +142,7 @@ pub fn works_on<V: Windows, W>(grid: &mut Grid<V, W>, told: &mut Tallies)
     let marks = marked_slots(&grid.window, frames.as_slice());
     for tile in 0..16u8 {
         count_work(told, tile, grid.state.busy(tile));
+        count_given(told, given(grid, tile));
         grid.unit_on(tile);
         issues_marked(grid, told, tile, marks);
     }

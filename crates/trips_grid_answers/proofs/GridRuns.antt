@@ -72,7 +72,10 @@ shown_number statistic.Violations t f = refl
 shown_number statistic.WrongExits t f = refl
 shown_number statistic.Ends t f = refl
 shown_number statistic.Predictions t f = refl
-shown_number (statistic.Station tile) c f = get_or-drop 9 (c.tallies).numbers tile 0
+shown_number statistic.Parcels t f = refl
+shown_number statistic.Links t f = refl
+shown_number statistic.Waits t f = refl
+shown_number (statistic.Station tile) c f = get_or-drop 12 (c.tallies).numbers tile 0
 
 -- the statistics that are shown of counters are of the notes that these have heard
 statistics_are : (cycles : List (List Note)) (notes : List Note) (c : Counters) (f : Flights) → AreCountersOf notes c

@@ -20,6 +20,9 @@ number_in statistic.Violations s = s.violations
 number_in statistic.WrongExits s = s.wrong_exits
 number_in statistic.Ends s = s.ends
 number_in statistic.Predictions s = s.predictions
+number_in statistic.Parcels s = s.parcels
+number_in statistic.Links s = s.links
+number_in statistic.Waits s = s.waits
 number_in (statistic.Station tile) s = slice_index_or s.stations tile 0
 
 -- these are the statistics of a run, of the notes of its cycles, those of the last first, and of all its notes; each is

@@ -54,6 +54,9 @@ fn statistics_of(told: &Counters, flights: &Flights) -> Statistics
         ends: tallies.get(Statistic::Ends),
         predictions: tallies.get(Statistic::Predictions),
         right: told.guesses.right,
+        parcels: tallies.get(Statistic::Parcels),
+        links: tallies.get(Statistic::Links),
+        waits: tallies.get(Statistic::Waits),
         in_flight: flights.cycles,
         stations: tallies.stations(),
     }

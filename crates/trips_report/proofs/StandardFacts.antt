@@ -17,6 +17,7 @@ use Rattle.trips_requests.specs.declared.status.Status.TheVariants as status
 use Rattle.trips_report.specs.Endings.{status_of}
 use Rattle.trips_report.specs.Runs.{word_digits, register_line, traced_line, count_line, count_lines, with_part}
 use Rattle.trips_report.specs.Runs.{fired_lines, flushed_lines, memory_lines, predicted_lines, flight_line}
+use Rattle.trips_report.specs.Runs.{network_lines}
 use Rattle.trips_report.specs.Commits.{commit_line}
 use Rattle.trips_report.specs.Runs.{station_line, statistic_lines, signed, run_report}
 use Rattle.trips_report.specs.inside.Refusals.{refusal_report}
@@ -46,6 +47,9 @@ measured = record {
     ends = 8;
     predictions = 9;
     right = 4;
+    parcels = 90;
+    links = 210;
+    waits = 13;
     in_flight = 3 ∷ 0 ∷ 12 ∷ 0 ∷ 5 ∷ 0 ∷ 0 ∷ 0 ∷ 20 ∷ [];
     stations = 9 ∷ 0 ∷ 0 ∷ 0 ∷ 0 ∷ 8 ∷ 0 ∷ 0 ∷ 0 ∷ 0 ∷ 0 ∷ 0 ∷ 0 ∷ 7 ∷ 0 ∷ 6 ∷ [];
   };
@@ -88,15 +92,16 @@ pub statistics_are : run_report ending.Ended ended measured 512 counted
     ≡ codes "output 2\nhi\nresult 7\nblocks 1\ncycles 40\nfetched 3\nflushed 2\ncost 512\n"
     ++ (codes "movs 1\nnulls 2\nuseful 34\nloads 5\nstores 6\n"
     ++ (codes "flushed_by_violation 0\nflushed_by_exit 7\nflushed_at_end 8\npredicted 9\npredicted_right 4\n"
+    ++ (codes "parcels 90\nlinks 210\nwaits 13\n"
     ++ (codes "in_flight_0 3\nin_flight_1 0\nin_flight_2 12\nin_flight_3 0\nin_flight_4 5\n"
     ++ (codes "in_flight_5 0\nin_flight_6 0\nin_flight_7 0\nin_flight_8 20\n"
     ++ (codes "station_0_0 9\nstation_0_1 0\nstation_0_2 0\nstation_0_3 0\n"
     ++ (codes "station_1_0 0\nstation_1_1 8\nstation_1_2 0\nstation_1_3 0\n"
     ++ (codes "station_2_0 0\nstation_2_1 0\nstation_2_2 0\nstation_2_3 0\n"
     ++ (codes "station_3_0 0\nstation_3_1 7\nstation_3_2 0\nstation_3_3 6\n"
-    ++ codes "block 0 committed 1\n"))))))))
-unfolding digits count_line count_lines fired_lines memory_lines flushed_lines predicted_lines flight_line
-    station_line commit_line statistic_lines with_part
+    ++ codes "block 0 committed 1\n")))))))))
+unfolding digits count_line count_lines fired_lines memory_lines flushed_lines predicted_lines network_lines
+    flight_line station_line commit_line statistic_lines with_part
 statistics_are = refl
 
 -- the lines of events stand behind all else

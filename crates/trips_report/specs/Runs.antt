@@ -88,6 +88,11 @@ flushed_lines s = count_line (codes "flushed_by_violation ") s.violations
 unfoldable pub predicted_lines : Statistics → List ℕ
 predicted_lines s = count_line (codes "predicted ") s.predictions ++ count_line (codes "predicted_right ") s.right
 
+-- the parcels of the operand network, the links that they passed, and the cycles that they waited for one
+unfoldable pub network_lines : Statistics → List ℕ
+network_lines s = count_line (codes "parcels ") s.parcels
+    ++ (count_line (codes "links ") s.links ++ count_line (codes "waits ") s.waits)
+
 -- how many cycles began with n frames in flight, as `in_flight_3 17`
 unfoldable pub flight_line : ℕ → ℕ → List ℕ
 flight_line n cycles = codes "in_flight_" ++ (decimal n ++ (32 ∷ (decimal cycles ++ 10 ∷ [])))
@@ -105,11 +110,12 @@ station_line tile cycles = codes "station_"
 abbrev pub station_lines : List ℕ → List ℕ
 station_lines cycles = numbered station_line 0 cycles
 
--- the statistics of a run: thirty-five lines
+-- the statistics of a run: thirty-eight lines
 unfoldable pub statistic_lines : Statistics → List ℕ
 statistic_lines s = fired_lines s
     ++ (memory_lines s
-    ++ (flushed_lines s ++ (predicted_lines s ++ (flight_lines s.in_flight ++ station_lines s.stations))))
+    ++ (flushed_lines s
+    ++ (predicted_lines s ++ (network_lines s ++ (flight_lines s.in_flight ++ station_lines s.stations)))))
 
 -- nothing was counted
 abbrev pub no_statistics : Statistics
@@ -124,6 +130,9 @@ no_statistics = record {
   ends = 0;
   predictions = 0;
   right = 0;
+  parcels = 0;
+  links = 0;
+  waits = 0;
   in_flight = 0 ∷ 0 ∷ 0 ∷ 0 ∷ 0 ∷ 0 ∷ 0 ∷ 0 ∷ 0 ∷ [];
   stations = 0 ∷ 0 ∷ 0 ∷ 0 ∷ 0 ∷ 0 ∷ 0 ∷ 0 ∷ 0 ∷ 0 ∷ 0 ∷ 0 ∷ 0 ∷ 0 ∷ 0 ∷ 0 ∷ [];
 }

@@ -3,7 +3,7 @@
 ghost use Rattle.std.specs.Prelude.{◌≡◌, ◌++◌, OnOk, length};
 ghost use Rattle.trips_report.specs.Runs.{word_digits, register_line, traced_line, count_line};
 ghost use Rattle.trips_report.specs.Runs.{register_lines, trace_lines, count_lines, with_part};
-ghost use Rattle.trips_report.specs.Runs.{fired_lines, flushed_lines, memory_lines, predicted_lines};
+ghost use Rattle.trips_report.specs.Runs.{fired_lines, flushed_lines, memory_lines, network_lines, predicted_lines};
 ghost use Rattle.trips_report.specs.Commits.{commit_lines};
 ghost use Rattle.trips_report.specs.Runs.{flight_line, flight_lines, statistic_lines};
 ghost use Rattle.trips_report.specs.Runs.{station_line, station_lines};
@@ -180,6 +180,16 @@ fn put_predicted(out: &mut Vec<u8>, statistics: Statistics) -> Result<(), AllocE
     put_count(out, b"predicted_right ", statistics.right)
 }
 
+// Writes what travelled on the operand network.
+#[tactic(auto, unfolding(crate::specs::Runs::network_lines))]
+fn put_network(out: &mut Vec<u8>, statistics: Statistics) -> Result<(), AllocError>
+    ensures ok { OnOk result (out.new.items ≡ out.old.items ++ network_lines statistics) }
+{
+    put_count(out, b"parcels ", statistics.parcels)?;
+    put_count(out, b"links ", statistics.links)?;
+    put_count(out, b"waits ", statistics.waits)
+}
+
 // Writes how many cycles began with so many frames in flight.
 #[tactic(auto, unfolding(crate::specs::Runs::flight_line))]
 fn put_flight(out: &mut Vec<u8>, frames: u64, cycles: u64) -> Result<(), AllocError>
@@ -237,6 +247,7 @@ fn put_statistics(out: &mut Vec<u8>, statistics: Statistics) -> Result<(), Alloc
     put_memory(out, statistics)?;
     put_flushed(out, statistics)?;
     put_predicted(out, statistics)?;
+    put_network(out, statistics)?;
     put_flights(out, &statistics.in_flight)?;
     put_stations(out, &statistics.stations)
 }

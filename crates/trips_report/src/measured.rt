@@ -30,6 +30,12 @@ pub struct Statistics {
     pub predictions: u64,
     /// predictions that were right
     pub right: u64,
+    /// parcels of the operand network
+    pub parcels: u64,
+    /// links that parcels passed
+    pub links: u64,
+    /// cycles that parcels waited for a link
+    pub waits: u64,
     /// cycles that began with so many frames in flight, from 0 to 8
     pub in_flight: [u64; 9],
     /// cycles in which the unit of each tile was busy, row by row
@@ -52,6 +58,9 @@ impl Statistics {
             ends: 0,
             predictions: 0,
             right: 0,
+            parcels: 0,
+            links: 0,
+            waits: 0,
             in_flight: [0; 9],
             stations: [0; 16],
         }

@@ -22,6 +22,8 @@ N[3] genu 7 W[1]
 N[4] scall 0
 ";
 
+/// A parcel for each of five results. They pass 1 link, 2 (for bank 0), 2 (bank 1), 1 (bank 3) and 3 (control), and no
+/// two of them want a link at once.
 const FIVE_REPORT: &str = "output 0
 
 result 7
@@ -35,6 +37,9 @@ flushed_by_exit 0
 flushed_at_end 0
 predicted 0
 predicted_right 0
+parcels 5
+links 9
+waits 0
 ";
 
 /// Each of its five operations keeps the unit of its tile busy for one cycle.
@@ -72,6 +77,8 @@ N[5] genu 3 W[0]
 N[6] scall 0
 ";
 
+/// A parcel for each of seven results, and one for the answer to the load. The results pass 2, 1, 3 (to data tile 0),
+/// 4, 2 (there too), 3 (bank 0) and 5 links (control), and the answer 5 (bank 3).
 const MEMORY_REPORT: &str = "output 0
 
 result 0
@@ -85,6 +92,9 @@ flushed_by_exit 0
 flushed_at_end 0
 predicted 0
 predicted_right 0
+parcels 8
+links 25
+waits 0
 ";
 
 const MEMORY_STATIONS: &str = "station_0_0 1
@@ -94,6 +104,55 @@ station_0_3 1
 station_1_0 1
 station_1_1 1
 station_1_2 1
+station_1_3 0
+station_2_0 0
+station_2_1 0
+station_2_2 0
+station_2_3 0
+station_3_0 0
+station_3_1 0
+station_3_2 0
+station_3_3 0
+block 0 committed 1
+";
+
+/// A block whose `mov` gives two tokens at once to registers of one bank, over the same two links.
+const WAITING: &str = "trips 1
+data 0
+block 0 mask 00000000
+W[0] write G[0]
+W[1] write G[4]
+N[0] genu 3 N[1,0]
+N[1] mov W[0] W[1]
+N[2] scall 0
+";
+
+/// Its four parcels pass 1, 2, 2 and 4 links, and the second token of the `mov` waits for the first.
+const WAITING_REPORT: &str = "output 0
+
+result 0
+movs 1
+nulls 0
+useful 2
+loads 0
+stores 0
+flushed_by_violation 0
+flushed_by_exit 0
+flushed_at_end 0
+predicted 0
+predicted_right 0
+parcels 4
+links 9
+waits 1
+";
+
+const WAITING_STATIONS: &str = "station_0_0 1
+station_0_1 1
+station_0_2 1
+station_0_3 0
+station_1_0 0
+station_1_1 0
+station_1_2 0
 station_1_3 0
 station_2_0 0
 station_2_1 0
@@ -119,6 +178,7 @@ fn answer_to(alloc: Global, words: &[&str]) -> Result<(Status, Vec<u8>), AllocEr
         &[
             ("five.tasl", FIVE.as_bytes()),
             ("memory.tasl", MEMORY.as_bytes()),
+            ("waiting.tasl", WAITING.as_bytes()),
             ("v.tasl", STORED.as_bytes()),
             ("powers.c", POWERS.as_bytes()),
             ("forever.c", FOREVER.as_bytes()),
@@ -127,7 +187,7 @@ fn answer_to(alloc: Global, words: &[&str]) -> Result<(Status, Vec<u8>), AllocEr
 }
 
 /// The lines of the statistics, before those of committed blocks.
-const STATISTICS: u64 = 35;
+const STATISTICS: u64 = 38;
 
 /// The names of those that hang on the weather: cycles by frames in flight.
 const IN_FLIGHT: &[&[u8]] = &[
@@ -161,6 +221,16 @@ const COUNTED: &[Counted] = &[
         &["run", "--stats", "memory.tasl", "--seed=4"],
         MEMORY_REPORT,
         MEMORY_STATIONS,
+    ),
+    (
+        &["run", "waiting.tasl", "--stats"],
+        WAITING_REPORT,
+        WAITING_STATIONS,
+    ),
+    (
+        &["run", "waiting.tasl", "--stats", "--weather=worst"],
+        WAITING_REPORT,
+        WAITING_STATIONS,
     ),
 ];
 
@@ -221,7 +291,7 @@ fn flown_in(report: &[u8]) -> u64 {
 
 // Each cycle began with some number of frames in flight, and each block has a number. Frames that were flushed are so
 // for one of three causes, each frame that was fetched was committed or flushed, and no more predictions are right than
-// were made.
+// were made. The branch of each block that was committed is a parcel, which has come to control over links.
 fn assert_sums(rt: &impl Abort, words: &[&str], report: &[u8]) {
     let blocks = number_of(report, b"blocks ").unwrap_or(0);
     let cycles = number_of(report, b"cycles ").unwrap_or(0);
@@ -231,11 +301,15 @@ fn assert_sums(rt: &impl Abort, words: &[&str], report: &[u8]) {
     let violations = number_of(report, b"flushed_by_violation ").unwrap_or(1);
     let exits = number_of(report, b"flushed_by_exit ").unwrap_or(1);
     let ends = number_of(report, b"flushed_at_end ").unwrap_or(1);
+    let parcels = number_of(report, b"parcels ").unwrap_or(0);
+    let links = number_of(report, b"links ").unwrap_or(0);
     let made = number_of(report, b"predicted ").unwrap_or(0);
     let right = number_of(report, b"predicted_right ").unwrap_or(1);
     let causes = violations.saturating_add(exits).saturating_add(ends);
     assert!(rt; useful >= blocks, "{words:?}");
     assert!(rt; right <= made, "{words:?}");
+    assert!(rt; parcels >= blocks, "{words:?}");
+    assert!(rt; links >= blocks, "{words:?}");
     assert_eq!(rt; flown_in(report), cycles, "{words:?}");
     assert_eq!(rt; commits_in(report), blocks, "{words:?}");
     assert_eq!(rt; flushed, causes, "{words:?}");
@@ -296,7 +370,7 @@ fn lines_in(text: &[u8]) -> u64 {
     count
 }
 
-// With its statistics a run is reported as without them, and behind that stand thirty-five lines, and one for each
+// With its statistics a run is reported as without them, and behind that stand thirty-eight lines, and one for each
 // block that was committed.
 fn assert_pairs(rt: &impl Abort, alloc: Global, rows: &[Pair]) -> Result<(), AllocError> {
     for (plain, counted) in rows {

@@ -1,7 +1,10 @@
 -- What some notes and a call add to tallies.
-use Rattle.std.specs.Prelude.{◌≡◌, ◌<◌, ℕ, ◌+◌, ◌^◌, ◌==◌, Bool, true, false, cond, List, ◌∷◌}
+use Rattle.std.specs.Prelude.{◌≡◌, ◌<◌, ℕ, ◌+◌, ◌*◌, ◌^◌, ◌==◌, Bool, true, false, cond, List, ◌∷◌}
+use Rattle.commit_flush_spec.specs.Frames.{Frame}
 use Rattle.grid_events.specs.Notes.{Note, Loads, Stores}
 use Rattle.grid_events.specs.Counts.{tally, flushed}
+use Rattle.grid_events.specs.StationNotes.{both_notes}
+use Rattle.grid_events.specs.Turns.{of_frame}
 use Rattle.grid_tallies.specs.declared.statistic.Statistic.{Statistic}
 use Rattle.grid_tallies.specs.declared.statistic.Statistic.TheVariants as statistic
 use Rattle.grid_tallies.specs.declared.tallies.Tallies.{Tallies}
@@ -31,3 +34,8 @@ AnswersHeard false flushes a b = (tile n m : ℕ) (es : List Note) → Nothing e
     → Heard a (Loads tile n m ∷ es) b
 AnswersHeard true flushes a b = (tile n m : ℕ) (null : Bool) (es : List Note)
     → OnlyFlushes statistic.Violations es → tally flushed es ≡ flushes → Heard a (Stores tile n m null ∷ es) b
+
+-- what is heard of the tokens that enter behind the answer: those of a load, and of a store none
+abbrev pub TokensHeard : Bool → ℕ → ℕ → List Frame → Tallies → Tallies → Type 0
+TokensHeard false n slot fs a b = (from : ℕ) → Heard a (of_frame n (λ f. both_notes from f (2 * slot)) fs) b
+TokensHeard true n slot fs a b = b ≡ a

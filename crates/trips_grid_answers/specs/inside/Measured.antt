@@ -21,6 +21,9 @@ statistics_of c f = record {
   ends = number_of statistic.Ends c.tallies;
   predictions = number_of statistic.Predictions c.tallies;
   right = (c.guesses).right;
+  parcels = number_of statistic.Parcels c.tallies;
+  links = number_of statistic.Links c.tallies;
+  waits = number_of statistic.Waits c.tallies;
   in_flight = f.cycles;
   stations = stations_of c.tallies;
 }

@@ -5,7 +5,7 @@ use Rattle.grid_cycle_spec.specs.Units.{works_on}
 use Rattle.grid_cycle_spec.specs.Cycles.{acts}
 use Rattle.grid_parts.specs.Seen.{seen}
 use Rattle.grid_machine.proofs.Rooms.{flushed_fit, after_reads, after_units}
-use Rattle.grid_events.specs.Parts.{answers_notes, works_notes}
+use Rattle.grid_events.specs.Parts.{answers_notes, reads_notes, works_notes}
 use Rattle.grid_tallies.proofs.Answering.{same_heard}
 use Rattle.grid_tallies.proofs.CycleFacts.{acts_hear, goes_counted, moves_same}
 use Rattle.grid_tallies.proofs.cycling.goes_on.Goals as goal
@@ -21,7 +21,7 @@ answers-requires g c =
     let v = c.args.grid.now.window in
     let n = c.args.grid.now.state.counts.cycles in
     let x = c.fetches.new.grid in
-    let y = c.reads_answered.new.self in
+    let y = c.reads_answered.new.grid in
     let two = after_reads (g.V.Windows.blocks v) (g.V.Windows.blocks x.window) (g.V.Windows.budget v)
     (g.V.Windows.budget x.window) (seen (g.V.Windows.held v) c.args.grid.now.state)
     (seen (g.V.Windows.held x.window) x.state) (seen (g.V.Windows.held y.window) y.state) c.fetches.ensures.change
@@ -35,7 +35,7 @@ moves-requires-clause-cycles g c =
     let v = c.args.grid.now.window in
     let n = c.args.grid.now.state.counts.cycles in
     let x = c.fetches.new.grid in
-    let y = c.reads_answered.new.self in
+    let y = c.reads_answered.new.grid in
     let z = c.answers.new.grid in
     let t = c.works_on.new.grid in
     let two = after_reads (g.V.Windows.blocks v) (g.V.Windows.blocks x.window) (g.V.Windows.budget v)
@@ -55,7 +55,7 @@ moves-requires-clause-flushed g c =
     let v = c.args.grid.now.window in
     let n = c.args.grid.now.state.counts.cycles in
     let x = c.fetches.new.grid in
-    let y = c.reads_answered.new.self in
+    let y = c.reads_answered.new.grid in
     let z = c.answers.new.grid in
     let t = c.works_on.new.grid in
     let two = after_reads (g.V.Windows.blocks v) (g.V.Windows.blocks x.window) (g.V.Windows.budget v)
@@ -77,7 +77,7 @@ returns-clause-goes g c =
     let b = g.V.Windows.budget v in
     let start = seen (g.V.Windows.held v) c.args.grid.now.state in
     let x = c.fetches.new.grid in
-    let y = c.reads_answered.new.self in
+    let y = c.reads_answered.new.grid in
     let z = c.answers.new.grid in
     let t = c.works_on.new.grid in
     let h = c.moves.new.grid in
@@ -89,6 +89,7 @@ returns-clause-goes g c =
     let budget_three = c.answers.ensures.budget ∙ budget_two in
     let image_four = c.works_on.ensures.image ∙ image_three in
     let budget_four = c.works_on.ensures.budget ∙ budget_three in
+    let mid_one = seen (g.V.Windows.held x.window) x.state in
     let mid_two = seen (g.V.Windows.held y.window) y.state in
     let mid_three = seen (g.V.Windows.held z.window) z.state in
     let one = c.fetches.ensures.change in
@@ -99,8 +100,11 @@ returns-clause-goes g c =
     goes_counted g.W.Weather.next g.W.Weather.follows bs b start (seen (g.V.Windows.held h.window) h.state)
     c.args.told.now (record c.fetches.new.told { tallies = c.works_on.new.told }) c.moves.new.told
     (acts_hear bs b start (seen (g.V.Windows.held x.window) x.state) mid_two mid_three c.args.told.now
-    c.fetches.new.told c.answers.new.told c.works_on.new.told one two three c.fetches.ensures.heard
-    (same_heard (λ i j. answers_notes i j mid_two) _ bs _ b c.fetches.new.told.tallies c.answers.new.told
+    c.fetches.new.told c.reads_answered.new.told c.answers.new.told c.works_on.new.told one two three
+    c.fetches.ensures.heard
+    (same_heard (λ i j. reads_notes i j mid_one) _ bs _ b c.fetches.new.told.tallies c.reads_answered.new.told
+    image_one budget_one c.reads_answered.ensures.heard)
+    (same_heard (λ i j. answers_notes i j mid_two) _ bs _ b c.reads_answered.new.told c.answers.new.told
     image_two budget_two
     c.answers.ensures.heard)
     (same_heard (λ i j. works_notes i j mid_three) _ bs _ b c.answers.new.told c.works_on.new.told image_three

@@ -1,4 +1,4 @@
-use Rattle.std.proofs.Common.{◌≡◌, ◌-◌, sym, ap, ◌∙◌, subst, arith}
+use Rattle.std.proofs.Common.{◌≡◌, ◌-◌, length, sym, ap, ◌∙◌, subst, arith}
 use Rattle.operand_net.specs.Places.{at}
 use Rattle.grid_cycle_spec.specs.Grid.{numbers_of}
 use Rattle.grid_cycle_spec.specs.inside.Arrivals.{arrivals}
@@ -12,8 +12,11 @@ use Rattle.grid_events.specs.Mesh.{tick_notes}
 use Rattle.grid_tallies.specs.Predictions.{Guessed}
 use Rattle.grid_tallies.proofs.Guessing.{guessed_both, guessed_none}
 use Rattle.grid_tallies.proofs.Quiet.{quiet_ticked}
-use Rattle.grid_tallies.proofs.Tallying.{heard_both, heard_none}
-use Rattle.grid_tallies.proofs.Flushing.{arrivals_heard, nothing_ticked}
+use Rattle.grid_tallies.specs.Statistics.{Heard}
+use Rattle.grid_tallies.specs.inside.Travelling.{frame_moves}
+use Rattle.grid_tallies.proofs.Tallying.{heard_both}
+use Rattle.grid_tallies.proofs.Travelled.{tick_heard}
+use Rattle.grid_tallies.proofs.Flushing.{arrivals_heard}
 use Rattle.grid_tallies.proofs.cycling.moves.Goals as goal
 
 pub arrivals-requires-clause-room : goal.arrivals-requires-clause-room
@@ -29,7 +32,7 @@ count_cycle-requires g c =
     let w = g.V.Windows.held v in
     let same = ap (λ x. x.counts.cycles) (c.tick.ensures.change w) in
     let after = c.arrivals.new.grid in
-    let kept = arrivals_cycles (g.V.Windows.blocks v) (g.V.Windows.budget v) c.as_slice-2.result.now
+    let kept = arrivals_cycles (g.V.Windows.blocks v) (g.V.Windows.budget v) c.as_slice-3.result.now
     (seen w c.tick.new.self) (seen (g.V.Windows.held after.window) after.state) c.arrivals.ensures.change in
     let room = c.requires.cycles in
     omega (arith, same, kept, room)
@@ -44,9 +47,9 @@ returns-clause-counted g c =
     let old = c.args.grid.now.state in
     let h = c.arrivals.new.grid in
     let ns = numbers_of w.frames in
-    let named = sym (c.as_slice.ensures.value ∙ c.numbers-frames.ensures.value) in
+    let named = sym (c.as_slice-2.ensures.value ∙ c.numbers-frames.ensures.value) in
     let come = c.arrivals.ensures.change
-    ∙ ap (λ l. arrivals bs b l (seen w s)) (c.as_slice-2.ensures.value ∙ c.numbers-frames.ensures.value)
+    ∙ ap (λ l. arrivals bs b l (seen w s)) (c.as_slice-3.ensures.value ∙ c.numbers-frames.ensures.value)
     ∙ ap (arrivals bs b ns) (c.tick.ensures.change w) in
     let same = ap (λ x. x.counts.flushed) (c.tick.ensures.change w) in
     let many = c.saturating_sub-flushed.ensures in
@@ -62,11 +65,12 @@ returns-clause-counted g c =
         arrived = c.count_cycle.ensures (g.V.Windows.held h.window) ∙ ap counted come;
       };
       heard = record {
-        tallies = heard_both c.args.told.now.tallies c.args.told.now.tallies c.add.new.self
+        tallies = heard_both c.args.told.now.tallies c.moves.new.told c.add.new.self
             (tick_notes ns (at old.mesh) (at s.mesh)) (arrivals_notes bs b ns m)
-            (heard_none c.args.told.now.tallies (tick_notes ns (at old.mesh) (at s.mesh))
-            (nothing_ticked ns (at old.mesh) (at s.mesh)))
-            (arrivals_heard bs b ns m end c.saturating_sub-flushed.result c.args.told.now.tallies c.add.new.self come
+            (tick_heard ns (at old.mesh) (at s.mesh) c.args.told.now.tallies c.moves.new.told
+            (subst (λ l. Heard c.args.told.now.tallies (frame_moves l (at old.mesh) (length l)) c.moves.new.told)
+            (c.as_slice.ensures.value ∙ c.numbers-frames.ensures.value) c.moves.ensures))
+            (arrivals_heard bs b ns m end c.saturating_sub-flushed.result c.moves.new.told c.add.new.self come
             by c.add.ensures);
         guesses = guessed_both c.args.told.now.guesses c.args.told.now.guesses c.arrivals.new.told
             (tick_notes ns (at old.mesh) (at s.mesh)) (arrivals_notes bs b ns m)
@@ -75,6 +79,6 @@ returns-clause-counted g c =
             (subst (λ x. Guessed c.args.told.now.guesses (arrivals_notes bs b ns x) c.arrivals.new.told)
             (c.tick.ensures.change w)
             (subst (λ l. Guessed c.args.told.now.guesses (arrivals_notes bs b l (seen w s)) c.arrivals.new.told)
-            (c.as_slice-2.ensures.value ∙ c.numbers-frames.ensures.value) c.arrivals.ensures.heard));
+            (c.as_slice-3.ensures.value ∙ c.numbers-frames.ensures.value) c.arrivals.ensures.heard));
       };
     }

@@ -50,11 +50,13 @@ loop-tile-preserved g c =
           ∙ ap (λ n. each (unit_turn bs b) n start) (sym (add-one tile));
       heard = each_heard (unit_turn bs b) (turn_notes bs b) tile start now c.args.told.now c.loop-tile.told
           c.issues_marked.new.told c.loop-tile.invariant.change c.loop-tile.invariant.heard
-          (turn_heard bs b tile now c.loop-tile.told c.issues_marked.new.told c.count_work.new.told mid
-          c.unit_on.ensures.change
+          (turn_heard bs b tile now c.loop-tile.told c.issues_marked.new.told c.count_work.new.told
+          c.count_given.new.told mid c.unit_on.ensures.change
           (subst (λ n. Adds (statistic.Station tile) (cond (n == 0) 0 1) c.loop-tile.told c.count_work.new.told)
           c.busy.ensures c.count_work.ensures)
-          (same_heard (λ i j. issues_notes i j tile mid) _ bs _ b c.count_work.new.told c.issues_marked.new.told
+          (subst (λ n. Adds statistic.Parcels n c.count_work.new.told c.count_given.new.told) c.given.ensures
+          c.count_given.ensures)
+          (same_heard (λ i j. issues_notes i j tile mid) _ bs _ b c.count_given.new.told c.issues_marked.new.told
           (image ∙ c.loop-tile.invariant.image) (budget ∙ c.loop-tile.invariant.budget)
           c.issues_marked.ensures.heard));
       image = c.issues_marked.ensures.image ∙ image ∙ c.loop-tile.invariant.image;

@@ -3,4 +3,4 @@ use Rattle.grid_tallies.specs.Statistics.{place}
 use Rattle.grid_tallies.proofs.tallies.Tallies.none.Goals as goal
 
 pub returns : goal.returns
-returns c = λ s room. zero_at 25 (place s)
+returns c = λ s room. zero_at 28 (place s)

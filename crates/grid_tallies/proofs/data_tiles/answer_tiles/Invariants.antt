@@ -5,7 +5,7 @@ use Rattle.grid_events.specs.StationNotes.{data_notes}
 use Rattle.grid_events.specs.Turns.{of_each}
 use Rattle.grid_parts.specs.Seen.{seen}
 use Rattle.grid_tallies.specs.Statistics.{Heard}
-use Rattle.grid_tallies.proofs.data_tiles.answers.Given as goal
+use Rattle.grid_tallies.proofs.data_tiles.answer_tiles.Given as goal
 
 abbrev pub invariant-loop-tile : goal.invariant-loop-tile
 invariant-loop-tile g l = record {
