@@ -1,6 +1,6 @@
 -- What the passes give of a flat program whose blocks are cut at every place.
 use Rattle.std.proofs.Common.{◌≡◌, ℕ, ◌+◌, ◌≤◌, List, [], map, length, Some, slice_get, sym, ap, subst}
-use Rattle.std.proofs.Common.{ap₂, ◌∙◌, arith}
+use Rattle.std.proofs.Common.{ap₂, ◌∙◌, refl, arith}
 use Rattle.std.specs.List.{All}
 use Rattle.std.specs.Prelude.{Bool}
 use Rattle.std.proofs.lemmas.Option.{slice_get_within, get_or_from_slice_get}
@@ -26,6 +26,7 @@ use Rattle.hyper_narrow.specs.inside.NarrowedCode.{Narrowed, whole, bare}
 use Rattle.ir_forms.specs.inside.HyperFits.{IsFollowed}
 use Rattle.reg_assign.specs.inside.Keeps.{FitsKept, KeepsTameRuns}
 use Rattle.reg_assign.specs.inside.Live.{AreCut, AreFew}
+use Rattle.hyper_build.specs.inside.FunctionParts.{entries_of}
 use Rattle.hyper_build.specs.inside.Laws.{built_program, plan_of, AreAssigned, AreBlocksOf}
 use Rattle.hyper_build.specs.inside.Routines.{built}
 use Rattle.hyper_build.specs.inside.Tree.{annotated_all, Routine}
@@ -41,7 +42,7 @@ use Rattle.c_compile_blocks.specs.inside.Blocks.{AreMachineBlocks, FitsPasses}
 use Rattle.c_compile_blocks.specs.inside.Limits.{FitsMachine}
 use Rattle.c_compile_blocks.specs.inside.Refusals.{FitMachine}
 use Rattle.c_compile_blocks.proofs.Emitted.{chunks_few, gives_emitted, sizes}
-use Rattle.c_compile_laws.specs.inside.Compiled.{IsCompiled}
+use Rattle.c_compile.specs.inside.Outlines.{IsOutlined}
 use Rattle.hyper_trim.specs.inside.Narrows.{Narrows}
 use Rattle.hyper_trim.proofs.Narrowing.{whole_narrows, whole_is}
 use Rattle.c_tree.specs.Limits.{most_tokens}
@@ -130,23 +131,27 @@ module _ (F : Program) (lists : List (List ℕ)) (groups : List (List (List ℕ)
     pub good : IsGoodImage (image_of us F.bytes)
     good = good_image B us F.bytes emitted fits.bytes (data_fits F.bytes frame_limit data_size fits.room)
 
-    -- the image of the machine blocks is the compiled one
-    pub is_compiled : KeepsTameRuns F lists → (w : ℕ) (i : Image) → i ≡ image_of us F.bytes → IsCompiled F p w i
-    is_compiled keeps w i e = record {
-      lists = lists;
-      groups = groups;
-      assigned = a;
-      keeps = keeps;
-      cuts = [];
-      joins = [];
-      times = [];
-      low = λ k. omega arith;
-      left = B;
-      narrows = subst (λ (P : List hyper.Block). Narrows P B) (sym (stays_once [] built_blocks (λ k. omega arith)))
-          narrows;
-      blocks = us;
-      made = made;
-      is = e;
+    -- the image of the machine blocks is the compiled one, and its functions begin where the plan says
+    pub is_outlined : KeepsTameRuns F lists → (w : ℕ) (i : Image) → i ≡ image_of us F.bytes
+        → IsOutlined F p w i (entries_of (plan_of [] [] groups) F)
+    is_outlined keeps w i e = record {
+      compiled = record {
+        lists = lists;
+        groups = groups;
+        assigned = a;
+        keeps = keeps;
+        cuts = [];
+        joins = [];
+        times = [];
+        low = λ k. omega arith;
+        left = B;
+        narrows = subst (λ (P : List hyper.Block). Narrows P B) (sym (stays_once [] built_blocks (λ k. omega arith)))
+            narrows;
+        blocks = us;
+        made = made;
+        is = e;
+      };
+      begin = refl;
     }
 
 -- WHAT THE PASSES SAY

@@ -1,5 +1,5 @@
 -- The image of a flat program by any plan, trimmed, where no pass refuses a block of it and the checker takes each.
-use Rattle.std.proofs.Common.{◌≡◌, ℕ, ◌+◌, ◌≤◌, Bool, true, List, length, ap, subst, arith}
+use Rattle.std.proofs.Common.{◌≡◌, ℕ, ◌+◌, ◌≤◌, Bool, true, List, length, refl, ap, subst, arith}
 use Rattle.std.specs.List.{All}
 use Rattle.std.specs.Prelude.{Option, Some, None, IfSome}
 use Rattle.trips_isa.specs.declared.block.Block.{Block}
@@ -15,6 +15,7 @@ use Rattle.ir_forms.specs.inside.HyperCode as hyper
 use Rattle.hyper_narrow.specs.inside.NarrowedCode.{Narrowed, bare}
 use Rattle.ir_forms.specs.inside.HyperFits.{IsFollowed}
 use Rattle.reg_assign.specs.inside.Keeps.{KeepsTameRuns}
+use Rattle.hyper_build.specs.inside.FunctionParts.{entries_of}
 use Rattle.hyper_build.specs.inside.Laws.{built_program, plan_of, AreAssigned, AreBlocksOf}
 use Rattle.hyper_build.specs.inside.Tree.{annotated_all}
 use Rattle.hyper_build.proofs.Assigned.{gives_assigned}
@@ -23,7 +24,7 @@ use Rattle.loop_unroll.specs.inside.Laws.{AsksAtMost}
 use Rattle.grid_place.specs.declared.placed.Placing.{Placing}
 use Rattle.c_compile_layout.specs.inside.Emitted.{image_of, most_blocks}
 use Rattle.c_compile_blocks.specs.inside.Blocks.{ArePassed, FitsPasses}
-use Rattle.c_compile_laws.specs.inside.Compiled.{IsCompiled}
+use Rattle.c_compile.specs.inside.Outlines.{IsOutlined}
 use Rattle.c_compile_laws.proofs.UnrolledPrograms.{unrolled_fits}
 use Rattle.hyper_trim.specs.inside.Narrows.{Narrows}
 use Rattle.c_compile_blocks.specs.inside.Checked.{AreChecked}
@@ -78,21 +79,25 @@ module _ (F : Program) (lists : List (List ℕ)) (groups : List (List (List ℕ)
     checked =
         are_checked true p P us F.bytes passes all fits.bytes (data_fits F.bytes frame_limit data_size fits.room)
 
-    -- an image whose blocks are all good is the compiled one
-    pub is_compiled : KeepsTameRuns F lists → (w : ℕ) → AsksAtMost w times → (i : Image) → i ≡ image_of us F.bytes
-        → All GoodBlock (image_of us F.bytes).blocks → IsCompiled F p w i
-    is_compiled keeps w low i e good = record {
-      lists = lists;
-      groups = groups;
-      assigned = a;
-      keeps = keeps;
-      cuts = cuts;
-      joins = joins;
-      times = times;
-      low = low;
-      left = P;
-      narrows = kept;
-      blocks = us;
-      made = checked.machine good;
-      is = e;
+    -- an image whose blocks are all good is the compiled one, and its functions begin where the plan says
+    pub is_outlined : KeepsTameRuns F lists → (w : ℕ) → AsksAtMost w times → (i : Image) → i ≡ image_of us F.bytes
+        → All GoodBlock (image_of us F.bytes).blocks
+        → IsOutlined F p w i (entries_of (plan_of cuts joins groups) F)
+    is_outlined keeps w low i e good = record {
+      compiled = record {
+        lists = lists;
+        groups = groups;
+        assigned = a;
+        keeps = keeps;
+        cuts = cuts;
+        joins = joins;
+        times = times;
+        low = low;
+        left = P;
+        narrows = kept;
+        blocks = us;
+        made = checked.machine good;
+        is = e;
+      };
+      begin = refl;
     }

@@ -7,13 +7,15 @@ mod attempts;
 mod compiling;
 mod copies;
 mod law;
+mod listed;
 mod lowering;
 mod rooms;
 mod within;
 
 pub use attempts::Tried;
-pub use compiling::{compile, compile_unrolled};
+pub use compiling::{compile, compile_listed, compile_unrolled};
 pub use law::{accepted_texts_keep_meaning, images_mean_texts};
+pub use listed::Listed;
 pub use lowering::lower_text;
 pub use rooms::Count;
 pub use within::compile_within;

@@ -51,5 +51,6 @@ pub mod NumbersForward
 pub mod IfPasses
 pub mod LoopPasses
 pub mod TestPasses
+pub mod FunctionParts
 pub mod FunctionsOut
 pub mod FormArms

@@ -28,7 +28,7 @@ use Rattle.hyper_build.proofs.ReachingLegs.{NoExit, HasExit, kind}
 
 -- NUMBERS
 
-abbrev numbers_at : ℕ → ℕ → ℕ → List Note → Numbering
+abbrev pub numbers_at : ℕ → ℕ → ℕ → List Note → Numbering
 numbers_at l i k N = record { label = l; place = i; calls = k; notes = N }
 
 same : {l m i j k n : ℕ} {M N : List Note} → l ≡ m → i ≡ j → k ≡ n → M ≡ N
@@ -341,7 +341,8 @@ abbrev pub sizes_of : List Routine → ℕ
 sizes_of [] = 0
 sizes_of (r ∷ rs) = routine_size r + sizes_of rs
 
-function_numbers : (g : Ground) (l i k : ℕ) (f : Function) (N : List Note)
+-- numbering a function gives the label, place, calls and notes behind the annotated one
+pub function_numbers : (g : Ground) (l i k : ℕ) (f : Function) (N : List Note)
     → number_function (plan g) f (numbers_at l i k N)
     ≡ numbers_at (l + routine_size (routine_at (plan g) i k f)) (i + 1 + steps_of f.body) (k + calls f.body)
     (N ++ function_notes (plan g) l i k f)

@@ -1,5 +1,5 @@
 -- Worked rows of what has a block of its own behind a break, a continue, a return or the end of the whole run.
-use Rattle.std.proofs.Common.{◌≡◌, ℕ, true, false, None, refl}
+use Rattle.std.proofs.Common.{◌≡◌, ℕ, true, false, None, refl, [], ◌∷◌}
 use Rattle.trips_isa.specs.declared.op.Op.TheVariants.{Mov}
 use Rattle.ir_forms.specs.declared.flat.Arg.{Arg}
 use Rattle.ir_forms.specs.declared.flat.Arg.TheVariants as arg
@@ -11,6 +11,7 @@ use Rattle.hyper_build.specs.inside.Tree.{Plan, goes_on, annotated}
 use Rattle.hyper_build.specs.inside.Straight.{Place}
 use Rattle.hyper_build.specs.inside.Sizes.{size}
 use Rattle.hyper_build.specs.inside.Entries.{entry}
+use Rattle.hyper_build.specs.inside.FunctionParts.{begins}
 
 -- nothing stands behind the last statement of a list
 nothing : goes_on Nop ≡ false
@@ -64,3 +65,10 @@ ends_with_a_variable : (at : Place) (p : Plan) (l : ℕ) (k : Block)
     → entry at (annotated p 0 0 (Halt (arg.Var 2) ▹ Nop)) l k
     ≡ record { items = Set 3 Mov (Reg 14) (Const 0) Done; tail = Leave (exit.Jump 1) }
 ends_with_a_variable at p l k = refl
+
+-- the first function begins behind the three blocks of none, and each behind the blocks of the one before
+two_functions : (b c : Block) → begins 3 ((b ∷ c ∷ []) ∷ (b ∷ c ∷ c ∷ []) ∷ []) ≡ 3 ∷ 5 ∷ []
+two_functions b c = refl
+
+no_function : begins 3 [] ≡ []
+no_function = refl

@@ -12,6 +12,7 @@ pub mod Fits
 pub mod Follow
 pub mod Followed
 pub mod Forward
+pub mod FunctionParts
 pub mod Ground
 pub mod Laws
 pub mod Legs

@@ -6,6 +6,7 @@ ghost use Rattle.hyper_build.specs.inside.Smallness.{AssignedAreLittle, CutBlock
 ghost use Rattle.hyper_build.specs.inside.Annotated.{PlainClaim};
 ghost use Rattle.hyper_build.specs.inside.Reached.{EmissionPutsBlocks};
 ghost use Rattle.hyper_build.specs.inside.BackwardProgram.{EmissionBuilds};
+ghost use Rattle.hyper_build.specs.inside.FunctionParts.{EntriesBegin};
 
 /// Calls of a built program do what the flat program's calls do, in all their endings.
 pub fn calls_follow()
@@ -64,4 +65,10 @@ pub fn emission_puts_blocks()
 /// definition, for every list of answers, all groups and every program.
 pub fn emission_builds_programs()
     ensures { EmissionBuilds }
+{}
+
+/// The blocks of a program are three and then function by function, those of each from its entry on; for every
+/// list of answers, all groups and every program.
+pub fn entries_begin_functions()
+    ensures { EntriesBegin }
 {}

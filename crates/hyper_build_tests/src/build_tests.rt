@@ -3,7 +3,7 @@
 
 use crate::making::{Answers, Looping, loop_alone, plan, program};
 use base::Memory;
-use hyper_build::build;
+use hyper_build::{build, function_entries};
 use ir_forms::{Exit, HyperProgram, Tail};
 use reg_assign::Assigned;
 use std::alloc::Global;
@@ -193,6 +193,30 @@ fn every_statement_is_built(rt: HostRuntime) {
     assert_built(&rt, alloc, &program, NO, NO, 27, CUT_NOWHERE);
     assert_built(&rt, alloc, &program, LACKING, YES, 55, CUT_AND_JOINED);
     assert_built(&rt, alloc, &program, NO, YES, 21, JOINED);
+}
+
+/// Under a plan the functions begin at these blocks.
+fn assert_entries(
+    rt: &impl Abort,
+    alloc: Global,
+    assigned: &Assigned,
+    cuts: Answers,
+    joins: Answers,
+    rows: &[u32],
+) {
+    let plan = plan(alloc, cuts, joins).expect(rt, "memory");
+    let entries = function_entries(alloc, assigned, &plan).expect(rt, "memory");
+    assert_eq!(rt; entries.as_slice(), rows, "entries");
+}
+
+/// The first function begins behind three blocks, and the other where the rows of the blocks have it.
+#[test]
+fn functions_begin_at_their_entries(rt: HostRuntime) {
+    let alloc = rt.alloc();
+    let program = program(alloc).expect(&rt, "memory");
+    assert_entries(&rt, alloc, &program, LACKING, LACKING, &[3, 33]);
+    assert_entries(&rt, alloc, &program, NO, NO, &[3, 15]);
+    assert_entries(&rt, alloc, &program, NO, YES, &[3, 12]);
 }
 
 // A loop with no last part goes on at its head, and has no block for that part.

@@ -8,10 +8,12 @@ use Rattle.block_cases.specs.Good.{GoodBlock}
 use Rattle.ir_forms.specs.inside.FlatViews.{program_of}
 use Rattle.hyper_narrow.specs.inside.NarrowedViews.{narrowed_blocks}
 use Rattle.c_compile_layout.specs.inside.Emitted.{image_of}
-use Rattle.c_compile_laws.specs.inside.Compiled.{IsCompiled}
+use Rattle.hyper_build.specs.inside.FunctionParts.{entries_of}
+use Rattle.hyper_build.specs.inside.Laws.{plan_of}
+use Rattle.c_compile.specs.inside.Outlines.{IsOutlined}
 use Rattle.c_compile.specs.declared.attempts.Lacking.{Lacking}
 use Rattle.c_compile.proofs.AskedTurns.{asks_at_most}
-use Rattle.c_compile.proofs.TriedPlans.{followed, low, checked, is_compiled}
+use Rattle.c_compile.proofs.TriedPlans.{followed, low, checked, is_outlined}
 use Rattle.c_compile.proofs.attempts.attempt.Goals as goal
 
 pub machine_blocks-requires : goal.machine_blocks-requires
@@ -46,11 +48,12 @@ returns-in-Ok c =
     let now = c.as_slice.result.now in
     let e = c.as_slice.ensures.value in
     let Good : Image → Type 0 = λ i. (i ≡ image_of us now) × All GoodBlock (image_of us now).blocks in
-    let Made : Image → Type 0 = λ i. IsCompiled (program_of g.flat) c.args.placing (c.args.copies - 1) i in
+    let Made : Image → Type 0 = λ i. IsOutlined (program_of g.flat) c.args.placing (c.args.copies - 1) i
+    (entries_of (plan_of c.args.plan.now.cuts c.args.plan.now.joins g.groups) (program_of g.flat)) in
     IfOk-weaker c.image_or_bad.result (λ (o : Result Image Lacking). IfOk o Good)
     (λ (o : Result Image Lacking). IfOk o Made)
     (λ (o : Result Image Lacking) h. IfOk-weaker o Good Made
-    (λ i h. is_compiled (program_of g.flat) g.live g.groups c.requires.fits c.requires.assigned c.requires.few
+    (λ i h. is_outlined (program_of g.flat) g.live g.groups c.requires.fits c.requires.assigned c.requires.few
     c.args.plan.now.cuts c.args.plan.now.joins c.args.times.now (narrowed_blocks c.args.program.now)
     c.requires.narrows c.args.placing us c.in-Ok.ensures.ok c.requires.keeps (c.args.copies - 1)
     (asks_at_most c.args.times.now c.args.copies c.requires.low) i

@@ -1,9 +1,9 @@
 use Rattle.std.proofs.Common.{subst, ◌-◌}
 use Rattle.std.proofs.lemmas.Result.{IfOk-weaker}
-use Rattle.trips_isa.specs.declared.block.Image.{Image}
 use Rattle.ir_forms.specs.declared.flat.FlatProgram.{FlatProgram}
 use Rattle.ir_forms.specs.inside.FlatViews.{program_of}
-use Rattle.c_compile_laws.specs.inside.Compiled.{IsCompiled}
+use Rattle.c_compile.specs.declared.listed.Listed.{Listed}
+use Rattle.c_compile.specs.inside.Outlines.{IsOutlined}
 use Rattle.c_compile.proofs.CutPrograms.{are_assigned, fits_given, few_given}
 use Rattle.c_compile.proofs.compiling.compiled.Goals as goal
 
@@ -24,8 +24,9 @@ pub returns : goal.returns
 returns c =
     let g = c.in_ok-assigned.assigned in
     let p = c.args.placing in
-    IfOk-weaker c.assigned_image.result (λ (i : Image). IsCompiled (program_of g.flat) p (c.args.copies - 1) i)
-    (λ (i : Image). IsCompiled (program_of c.args.flat) p (c.args.copies - 1) i)
-    (λ i h. subst (λ (f : FlatProgram). IsCompiled (program_of f) p (c.args.copies - 1) i)
+    IfOk-weaker c.assigned_image.result
+    (λ (l : Listed). IsOutlined (program_of g.flat) p (c.args.copies - 1) l.image l.entries)
+    (λ (l : Listed). IsOutlined (program_of c.args.flat) p (c.args.copies - 1) l.image l.entries)
+    (λ l h. subst (λ (f : FlatProgram). IsOutlined (program_of f) p (c.args.copies - 1) l.image l.entries)
     c.in_ok-assigned.ensures.flat h)
     c.assigned_image.ensures
