@@ -7,7 +7,7 @@ use Rattle.c_tree.specs.declared.BinaryOp.TheVariants.{Less, Add, Subtract}
 use Rattle.c_tree.specs.declared.TypedProgram.{TypedProgram}
 use Rattle.c_constant.specs.Operation.{operate}
 use Rattle.c_constant.specs.Kinds.{converted}
-use Rattle.c_meaning_spec.specs.State.{State}
+use Rattle.c_meaning_spec.specs.State.{State, nothing_told}
 use Rattle.c_meaning_spec.specs.declared.signal.Signal.TheVariants.{Nothing, Returns}
 use Rattle.bench_laws.proofs.Rules.{Turns, Runs, Follow, r_scalar, r_operation, r_convert, r_assign, r_set, r_element}
 use Rattle.bench_laws.proofs.Rules.{r_plain, r_turn, r_end, r_loop, r_next, r_last, r_declare, r_give, r_number}
@@ -31,6 +31,7 @@ inside input output room x i row = record {
   rows = None ∷ [];
   base = 1;
   room = room;
+  told = nothing_told;
 }
 
 module _ (P : TypedProgram) (input output : List ℕ) (room x : ℕ) where

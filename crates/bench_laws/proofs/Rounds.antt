@@ -8,7 +8,7 @@ use Rattle.std.proofs.lemmas.Bool.Decides.{nat_tests}
 use Rattle.c_tree.specs.declared.Kind.TheVariants.{Int, Long}
 use Rattle.c_tree.specs.declared.TypedFunc.{TypedFunc}
 use Rattle.c_tree.specs.declared.TypedProgram.{TypedProgram}
-use Rattle.c_meaning_spec.specs.State.{State}
+use Rattle.c_meaning_spec.specs.State.{State, nothing_told}
 use Rattle.c_meaning_spec.specs.declared.signal.Signal.{Signal}
 use Rattle.c_meaning_spec.specs.declared.signal.Signal.TheVariants.{Nothing, Returns}
 use Rattle.bench_laws.specs.inside.Values.{value, letter, letters}
@@ -74,6 +74,7 @@ outside input output x row = record {
   rows = None ∷ [];
   base = 1;
   room = 152;
+  told = nothing_told;
 }
 
 -- the array behind so many rounds

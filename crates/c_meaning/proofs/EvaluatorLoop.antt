@@ -5,42 +5,41 @@ use Rattle.std.proofs.lemmas.Bool.Decides.{nat_tests}
 use Rattle.std.proofs.lemmas.List.{length-reverse, length-map, map-append, reverse-append, reverse-reverse}
 use Rattle.std.proofs.lemmas.Grind.{reverse_onto}
 use Rattle.c_tree.specs.declared.TypedProgram.{TypedProgram}
-use Rattle.c_meaning_spec.specs.declared.Signal.{Signal}
-use Rattle.c_meaning_spec.specs.State.{State, Result, Go, Over}
-use Rattle.c_meaning_spec.specs.inside.State.{then}
-use Rattle.c_meaning_spec.specs.Task.{Task}
-use Rattle.c_meaning_spec.specs.Eval.{meaning}
-use Rattle.c_meaning.specs.inside.Follow.{Follow}
+use Rattle.c_meaning_spec.specs.State.{State, Result}
+use Rattle.c_meaning.specs.inside.Follow.{Waits}
 use Rattle.c_meaning.specs.inside.Ahead.{Next, ToDo, Given, Ended, ahead_next, is_over, is_empty}
-use Rattle.c_meaning.specs.inside.Ahead.{back_of, unwind_of, IsReached}
-use Rattle.c_meaning.specs.inside.View.{follow, frames}
-use Rattle.c_meaning.specs.declared.frame.Frame.{Frame}
+use Rattle.c_meaning.specs.inside.Ahead.{back_on, unwind_on, IsReached}
+use Rattle.c_meaning.specs.inside.View.{waits, frames}
+use Rattle.c_meaning.specs.declared.frame.Waiting.{Waiting}
 use Rattle.c_meaning.proofs.Lists.{stack_push}
-use Rattle.c_meaning.proofs.Unwinds.{then-on}
+use Rattle.c_meaning.proofs.Unwinds.{unwound-on}
 
-pub frames-length : (fs : List Frame) → length (frames fs) ≡ length fs
+pub frames-length : (xs : List Waiting) → length (frames xs) ≡ length xs
 unfolding frames
-frames-length fs = simp (length-reverse, length-map)
+frames-length xs = simp (length-reverse, length-map)
 
-pub frames-top : (old rest : List Frame) (f : Frame) → old ≡ rest ++ f ∷ []
-    → frames old ≡ follow f ∷ frames rest
+frames-top : (old rest : List Waiting) (x : Waiting) → old ≡ rest ++ x ∷ []
+    → frames old ≡ waits x ∷ frames rest
 unfolding frames
-frames-top old rest f e = ap (λ (fs : List Frame). reverse (map follow fs)) e ∙ stack_push rest f
+frames-top old rest x e = ap (λ (xs : List Waiting). reverse (map waits xs)) e ∙ stack_push rest x
 
-unwound-top : (P : TypedProgram) (f : Follow) (fs : List Follow) (v : Signal) (s : State)
-    → unwind_of P (f ∷ fs) v s ≡ then (back_of P f v s) (unwind_of P fs)
-unfolding unwind_of
-unwound-top P f fs v s = refl
+unwound-top : (P : TypedProgram) (x : Waits) (xs : List Waits) (r : Result)
+    → unwind_on P (x ∷ xs) r ≡ unwind_on P xs (back_on P x r)
+unfolding unwind_on
+unwound-top P x xs r = refl
 
--- the topmost frame is taken off, and makes of what comes to it what it does
-pub give-kept : (P : TypedProgram) (f : Frame) (v : Signal) (s s' : State) (n n0 : Next)
-    (old rest new : List Frame) → n0 ≡ Given v → old ≡ rest ++ f ∷ []
-    → ahead_next P n (frames new) s' ≡ then (back_of P (follow f) v s) (unwind_of P (frames rest))
-    → ahead_next P n (frames new) s' ≡ ahead_next P n0 (frames old) s
-give-kept P f v s s' n n0 old rest new e o h =
-    h ∙ (sym (unwound-top P (follow f) (frames rest) v s)
-    ∙ (ap (λ (fs : List Follow). ahead_next P (Given v) fs s) (sym (frames-top old rest f o))
-    ∙ ap (λ (m : Next). ahead_next P m (frames old) s) (sym e)))
+-- the topmost that waits is taken off, and makes of what comes to it what it does
+pub top_taken : (P : TypedProgram) (x : Waiting) (r : Result) (old rest : List Waiting) → old ≡ rest ++ x ∷ []
+    → unwind_on P (frames rest) (back_on P (waits x) r) ≡ unwind_on P (frames old) r
+top_taken P x r old rest e =
+    sym (ap (λ (xs : List Waits). unwind_on P xs r) (frames-top old rest x e)
+    ∙ unwound-top P (waits x) (frames rest) r)
+
+-- the same of one that is known
+pub taken_as : (P : TypedProgram) (x w : Waiting) (r : Result) (old rest : List Waiting) → old ≡ rest ++ x ∷ []
+    → x ≡ w → unwind_on P (frames rest) (back_on P (waits w) r) ≡ unwind_on P (frames old) r
+taken_as P x w r old rest e is =
+    ap (λ (y : Waiting). unwind_on P (frames rest) (back_on P (waits y) r)) (sym is) ∙ top_taken P x r old rest e
 
 suc-not-zero : (n : ℕ) → false ≡ nat_eq (suc n) 0
 suc-not-zero n = grind (arith, nat_tests)
@@ -49,80 +48,66 @@ is_empty-len : {A : Type 0} (xs : List A) → is_empty xs ≡ nat_eq (length xs)
 is_empty-len [] = refl
 is_empty-len (x ∷ xs) = suc-not-zero (length xs)
 
--- where there is no frame, what was given is the end
-pub over-given : (v : Signal) (n0 : Next) (fs : List Frame) → n0 ≡ Given v
-    → is_over n0 (frames fs) ≡ nat_eq (length fs) 0
-over-given v n0 fs e =
-    ap (λ (m : Next). is_over m (frames fs)) e
-    ∙ (is_empty-len (frames fs) ∙ ap (λ (k : ℕ). nat_eq k 0) (frames-length fs))
+-- whether something waits, by how much does
+pub empty_frames : (xs : List Waiting) → is_empty (frames xs) ≡ nat_eq (length xs) 0
+empty_frames xs = is_empty-len (frames xs) ∙ ap (λ (k : ℕ). nat_eq k 0) (frames-length xs)
 
--- where no frame is left, a result that was given is the end
-pub no-frame : (v : Signal) (n0 : Next) (fs : List Frame) → n0 ≡ Given v → length fs ≡ 0
-    → is_over n0 (frames fs) ≡ false → ⊥
-no-frame v n0 fs e l h =
-    let a : true ≡ false = sym (over-given v n0 fs e ∙ ap (λ (k : ℕ). nat_eq k 0) l) ∙ h in
+-- where nothing waits, all is over
+pub none_waits : (xs : List Waiting) → length xs ≡ 0 → is_empty (frames xs) ≡ false → ⊥
+none_waits xs l h =
+    let a : true ≡ false = sym (empty_frames xs ∙ ap (λ (k : ℕ). nat_eq k 0) l) ∙ h in
     absurd (cc)
 
 -- what is over has been reached
-pub reached : (P : TypedProgram) (n : Next) (fs : List Follow) (s : State) (r : Result)
-    → is_over n fs ≡ true → ahead_next P n fs s ≡ r → IsReached n s r
-unfolding unwind_of
-reached P (ToDo t) fs s r o h = absurd (cc)
+pub reached : (P : TypedProgram) (n : Next) (xs : List Waits) (s : State) (r : Result)
+    → is_over n xs ≡ true → ahead_next P n xs s ≡ r → IsReached n s r
+unfolding unwind_on
+reached P (ToDo t) xs s r o h = absurd (cc)
 reached P (Given v) [] s r o h = sym h
-reached P (Given v) (f ∷ fs) s r o h = absurd (cc)
-reached P (Ended why) fs s r o h = sym h
+reached P (Given v) (x ∷ xs) s r o h = absurd (cc)
+reached P (Ended why) [] s r o h = sym h
+reached P (Ended why) (x ∷ xs) s r o h = absurd (cc)
 
-no-frames : (fs : List Frame) → fs ≡ [] → frames fs ≡ []
+no-frames : (xs : List Waiting) → xs ≡ [] → frames xs ≡ []
 unfolding frames
-no-frames fs e = ap (λ (fs : List Frame). reverse (map follow fs)) e
+no-frames xs e = ap (λ (xs : List Waiting). reverse (map waits xs)) e
 
-then-unwound : (P : TypedProgram) (r : Result) → then r (unwind_of P []) ≡ r
-unfolding unwind_of
-then-unwound P (Go v s) = refl
-then-unwound P (Over why s) = refl
+unwound-none : (P : TypedProgram) (r : Result) → unwind_on P [] r ≡ r
+unfolding unwind_on
+unwound-none P r = refl
 
--- before no frames a part is what it means
-pub no_more : (P : TypedProgram) (r : Result) (fs : List Frame) → fs ≡ []
-    → then r (unwind_of P (frames fs)) ≡ r
-no_more P r fs e =
-    ap (λ (fs : List Follow). then r (unwind_of P fs)) (no-frames fs e) ∙ then-unwound P r
+-- before nothing that waits a part is what it means
+pub no_more : (P : TypedProgram) (r : Result) (xs : List Waiting) → xs ≡ [] → unwind_on P (frames xs) r ≡ r
+no_more P r xs e =
+    ap (λ (xs : List Waits). unwind_on P xs r) (no-frames xs e) ∙ unwound-none P r
 
-turn-map : (xs : List Frame) → map follow (reverse xs) ≡ reverse (map follow xs)
+turn-map : (xs : List Waiting) → map waits (reverse xs) ≡ reverse (map waits xs)
 turn-map [] = refl
 turn-map (x ∷ xs) =
-    ap (λ (fs : List Frame). map follow fs) (reverse_onto xs x [])
-    ∙ (map-append follow (reverse xs) (x ∷ [])
-    ∙ (ap (λ (fs : List Follow). fs ++ follow x ∷ []) (turn-map xs)
-    ∙ sym (reverse_onto (map follow xs) (follow x) [])))
+    ap (λ (ys : List Waiting). map waits ys) (reverse_onto xs x [])
+    ∙ (map-append waits (reverse xs) (x ∷ [])
+    ∙ (ap (λ (ys : List Waits). ys ++ waits x ∷ []) (turn-map xs)
+    ∙ sym (reverse_onto (map waits xs) (waits x) [])))
 
-over-turned : (pending old : List Frame)
-    → reverse (map follow (old ++ reverse pending)) ≡ map follow pending ++ reverse (map follow old)
+over-turned : (pending old : List Waiting)
+    → reverse (map waits (old ++ reverse pending)) ≡ map waits pending ++ reverse (map waits old)
 over-turned pending old =
-    ap (λ (fs : List Follow). reverse fs) (map-append follow old (reverse pending))
-    ∙ (reverse-append (map follow old) (map follow (reverse pending))
-    ∙ ap (λ (fs : List Follow). fs ++ reverse (map follow old))
-    (ap (λ (fs : List Follow). reverse fs) (turn-map pending) ∙ reverse-reverse (map follow pending)))
+    ap (λ (xs : List Waits). reverse xs) (map-append waits old (reverse pending))
+    ∙ (reverse-append (map waits old) (map waits (reverse pending))
+    ∙ ap (λ (xs : List Waits). xs ++ reverse (map waits old))
+    (ap (λ (xs : List Waits). reverse xs) (turn-map pending) ∙ reverse-reverse (map waits pending)))
 
--- frames that were turned over, behind those that stand there
-pub turned_over : (pending turned old new : List Frame) → turned ≡ reverse pending → new ≡ old ++ turned
-    → frames new ≡ map follow pending ++ frames old
+-- what waits and was turned over, behind what waits there
+pub turned_over : (pending turned old new : List Waiting) → turned ≡ reverse pending → new ≡ old ++ turned
+    → frames new ≡ map waits pending ++ frames old
 unfolding frames
 turned_over pending turned old new t n =
-    ap (λ (fs : List Frame). reverse (map follow fs)) n
-    ∙ (ap (λ (fs : List Frame). reverse (map follow (old ++ fs))) t ∙ over-turned pending old)
+    ap (λ (xs : List Waiting). reverse (map waits xs)) n
+    ∙ (ap (λ (xs : List Waiting). reverse (map waits (old ++ xs))) t ∙ over-turned pending old)
 
--- a task before frames of two lists
-pub both_follow : (P : TypedProgram) (t : Task) (s s' : State) (fs gs now : List Follow)
-    → now ≡ fs ++ gs → s' ≡ s
-    → then (meaning P t s') (unwind_of P now) ≡ then (then (meaning P t s) (unwind_of P fs)) (unwind_of P gs)
-both_follow P t s s' fs gs now e d =
-    ap (λ (x : State). then (meaning P t x) (unwind_of P now)) d
-    ∙ (ap (λ (xs : List Follow). then (meaning P t s) (unwind_of P xs)) e
-    ∙ then-on P (meaning P t s) fs gs)
-
--- no value, before frames of two lists
-pub both_given : (P : TypedProgram) (v : Signal) (s s' : State) (fs gs now : List Follow) → now ≡ fs ++ gs → s' ≡ s
-    → unwind_of P now v s' ≡ then (unwind_of P fs v s) (unwind_of P gs)
-both_given P v s s' fs gs now e d =
-    ap (λ (x : State). unwind_of P now v x) d
-    ∙ (ap (λ (xs : List Follow). unwind_of P xs v s) e ∙ then-on P (Go v s) fs gs)
+-- a part before what waits on two lists
+pub both_wait : (P : TypedProgram) (f : State → Result) (s s' : State) (xs ys now : List Waits)
+    → now ≡ xs ++ ys → s' ≡ s → unwind_on P now (f s') ≡ unwind_on P ys (unwind_on P xs (f s))
+both_wait P f s s' xs ys now e d =
+    ap (λ (u : State). unwind_on P now (f u)) d
+    ∙ (ap (λ (zs : List Waits). unwind_on P zs (f s)) e ∙ unwound-on P xs ys (f s))

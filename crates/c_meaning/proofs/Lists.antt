@@ -4,13 +4,13 @@ use Rattle.std.proofs.Common.{length, drop, get_or, refl, arith}
 use Rattle.std.proofs.lemmas.List.{map-append, reverse-append}
 use Rattle.c_tree.specs.declared.TypedArray.{TypedArray}
 use Rattle.c_meaning_spec.specs.Call.{array_bytes, all_bytes}
-use Rattle.c_meaning.specs.inside.View.{follow}
-use Rattle.c_meaning.specs.declared.frame.Frame.{Frame}
+use Rattle.c_meaning.specs.inside.View.{waits}
+use Rattle.c_meaning.specs.declared.frame.Waiting.{Waiting}
 
--- a frame put behind the frames is the first thing that follows
-pub stack_push : (xs : List Frame) (f : Frame)
-    → reverse (map follow (xs ++ f ∷ [])) ≡ follow f ∷ reverse (map follow xs)
-stack_push xs f = simp (map-append, reverse-append)
+-- one put behind what waits is the first
+pub stack_push : (xs : List Waiting) (x : Waiting)
+    → reverse (map waits (xs ++ x ∷ [])) ≡ waits x ∷ reverse (map waits xs)
+stack_push xs x = simp (map-append, reverse-append)
 
 pub all_drop : (xs : List TypedArray) (i : ℕ) (d : TypedArray) → i < length xs
     → all_bytes (drop i xs) ≡ array_bytes (get_or xs i d) + all_bytes (drop (suc i) xs)

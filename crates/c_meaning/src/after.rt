@@ -4,7 +4,7 @@ ghost use Rattle.std.specs.Prelude.{◌++◌, ◌∷◌, []};
 ghost use Rattle.c_meaning_spec.specs.Call.{arguments};
 ghost use Rattle.c_meaning_spec.specs.Expression as meant_expression;
 ghost use Rattle.c_meaning_spec.specs.Statement as meant;
-ghost use Rattle.c_meaning_spec.specs.Eval.{meaning};
+ghost use Rattle.c_meaning_spec.specs.Telling.{calling, telling};
 ghost use Rattle.c_meaning.specs.inside.Ahead.{back_of};
 ghost use Rattle.c_meaning.specs.inside.Direct.{Runs, Values};
 ghost use Rattle.c_meaning.specs.inside.View.{behind, follow, follow_operand, view};
@@ -74,18 +74,20 @@ impl<'a> Store<'a> {
     fn after_argument(
         &mut self,
         program: &'a TypedProgram,
+        token: u32,
         callee: Callee,
         rest: &'a [Boxed<TypedExpr>],
         done: Arguments,
         w: u64,
     ) -> Option<u64>
         ensures { Values program.now
-            (arguments (meaning program.now) program.now callee rest.now (done ++ w ∷ []) (view self.old))
+            (arguments (calling token (telling program.now)) program.now callee rest.now (done ++ w ∷ [])
+            (view self.old))
             self.new result }
     {
         let mut list = done.into_scalars();
         match push_argument(&mut list, &mut self.spare_lists, w) {
-            Ok(()) => self.call_value(program, callee, rest, &mut list, MOST_DEPTH),
+            Ok(()) => self.call_value(program, token, callee, rest, &mut list, MOST_DEPTH),
             Err(_) => {
                 self.stop = Stop::Memory;
                 None
@@ -102,7 +104,7 @@ impl<'a> Store<'a> {
         w: u64,
     ) -> Option<u64>
         ensures { Values program.now
-            (meant_expression.after_choice (meaning program.now) first.now other.now (Signal.Value w)
+            (meant_expression.after_choice (telling program.now) first.now other.now (Signal.Value w)
             (view self.old)) self.new result }
     {
         if w == 0 {
@@ -121,7 +123,7 @@ impl<'a> Store<'a> {
         w: u64,
     ) -> Ran
         ensures { Runs program.now
-            (meant.after_if (meaning program.now) first.now (behind other.entry) (Signal.Value w)
+            (meant.after_if (telling program.now) first.now (behind other.entry) (Signal.Value w)
             (view self.old)) self.new result }
     {
         if w == 0 {
@@ -138,7 +140,7 @@ impl<'a> Store<'a> {
     #[inline(never)]
     pub fn body_after(&mut self, program: &'a TypedProgram, turn: Loop<'a>, w: u64) -> Ran
         ensures { Runs program.now
-            (meant.after_test (meaning program.now) (behind turn.entry.test) (behind turn.entry.post)
+            (meant.after_test (telling program.now) (behind turn.entry.test) (behind turn.entry.post)
             turn.entry.body.now (Signal.Value w) (view self.old)) self.new result }
     {
         if w == 0 {
@@ -152,7 +154,7 @@ impl<'a> Store<'a> {
     #[inline(never)]
     pub fn post_after(&mut self, program: &'a TypedProgram, turn: Loop<'a>) -> Ran
         ensures { Runs program.now
-            (meant.then_turn (meaning program.now) (behind turn.entry.post) (behind turn.entry.test)
+            (meant.then_turn (telling program.now) (behind turn.entry.post) (behind turn.entry.test)
             (behind turn.entry.post) turn.entry.body.now (view self.old)) self.new result }
     {
         match self.run_post(program, turn, MOST_DEPTH) {
@@ -185,9 +187,12 @@ impl<'a> Store<'a> {
                 let object = self.row_element_of(place, row, w);
                 self.loaded(program, object)
             }
-            Frame::Argument { callee, rest, done } => {
-                self.after_argument(program, callee, rest, done, w)
-            }
+            Frame::Argument {
+                token,
+                callee,
+                rest,
+                done,
+            } => self.after_argument(program, token, callee, rest, done, w),
             Frame::Operand { operand, right } => self.after_operand(program, operand, right, w),
             Frame::Operated { op, kind, left } => { self.binary_given(program, op, kind, left, w) }
             Frame::Truth => if w == 0 { Some(0) } else { Some(1) },

@@ -8,7 +8,7 @@ ghost use Rattle.c_meaning_spec.specs.inside.State.{then};
 ghost use Rattle.c_meaning_spec.specs.Task.{Of, scalar_of as scalar_in};
 ghost use Rattle.c_meaning_spec.specs.Expression.{bump};
 ghost use Rattle.c_meaning_spec.specs.Expression as meant_expression;
-ghost use Rattle.c_meaning_spec.specs.Eval.{meaning};
+ghost use Rattle.c_meaning_spec.specs.Telling.{telling};
 ghost use Rattle.c_meaning.specs.inside.View.{view};
 ghost use Rattle.c_meaning.specs.inside.Direct.{Values};
 
@@ -121,7 +121,7 @@ impl<'a> Store<'a> {
         depth: u32,
     ) -> Option<u64>
         ensures { Values program.now
-            (bump (meaning program.now) op e.now.kind (node_of e.now) (view self.old)) self.new result }
+            (bump (telling program.now) op e.now.kind (node_of e.now) (view self.old)) self.new result }
     {
         let kind = e.kind;
         match &e.node {
@@ -149,7 +149,7 @@ impl<'a> Store<'a> {
         depth: u32,
     ) -> Option<u64>
         ensures { Values program.now
-            (then (meaning program.now (Of index.now) (view self.old))
+            (then (telling program.now (Of index.now) (view self.old))
             (meant_expression.bump_element op kind place)) self.new result }
     {
         let depth = depth.saturating_sub(BUMP);
@@ -158,7 +158,7 @@ impl<'a> Store<'a> {
                 let object = self.element_of(place, w);
                 self.bumped(program, op, kind, object)
             }
-            None => self.held(program, Frame::BumpElement { op, kind, place }),
+            None => self.held(program, index.at, Frame::BumpElement { op, kind, place }),
         }
     }
 
@@ -176,8 +176,8 @@ impl<'a> Store<'a> {
         depth: u32,
     ) -> Option<u64>
         ensures { Values program.now
-            (then (meaning program.now (Of row.now) (view self.old))
-            (meant_expression.bump_after_row (meaning program.now) op kind place index.now)) self.new result }
+            (then (telling program.now (Of row.now) (view self.old))
+            (meant_expression.bump_after_row (telling program.now) op kind place index.now)) self.new result }
     {
         let depth = depth.saturating_sub(BUMP);
         match self.value_of(program, row, depth) {
@@ -188,7 +188,7 @@ impl<'a> Store<'a> {
                     operand,
                     right: index,
                 };
-                self.held(program, frame)
+                self.held(program, row.at, frame)
             }
         }
     }
@@ -207,7 +207,7 @@ impl<'a> Store<'a> {
         depth: u32,
     ) -> Option<u64>
         ensures { Values program.now
-            (then (meaning program.now (Of index.now) (view self.old))
+            (then (telling program.now (Of index.now) (view self.old))
             (meant_expression.bump_row op kind place row)) self.new result }
     {
         match self.value_of(program, index, depth) {
@@ -217,6 +217,7 @@ impl<'a> Store<'a> {
             }
             None => self.held(
                 program,
+                index.at,
                 Frame::BumpRow {
                     op,
                     kind,

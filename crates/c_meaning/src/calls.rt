@@ -6,9 +6,9 @@ ghost use Rattle.c_meaning_spec.specs.State.{Result as Meant};
 ghost use Rattle.c_meaning_spec.specs.inside.State.{then};
 ghost use Rattle.c_meaning_spec.specs.Call.{frame as frame_of, called, enter, entered, entered_if};
 ghost use Rattle.c_meaning_spec.specs.Call.{arguments, left, returned};
-ghost use Rattle.c_meaning_spec.specs.Eval.{meaning};
+ghost use Rattle.c_meaning_spec.specs.Telling.{calling, telling};
 ghost use Rattle.c_meaning.specs.inside.View.{behind, view};
-ghost use Rattle.c_meaning.specs.inside.Direct.{Runs, Stopped, Values, signal_of};
+ghost use Rattle.c_meaning.specs.inside.Direct.{Runs, Stopped, Values, parts_at, signal_of, through_if};
 ghost use Rattle.c_meaning.specs.inside.Given.{words};
 
 use crate::arguments::push_argument;
@@ -30,17 +30,18 @@ impl<'a> Store<'a> {
     pub fn first_argument(
         &mut self,
         program: &'a TypedProgram,
+        token: u32,
         callee: Callee,
         args: &'a [Boxed<TypedExpr>],
         depth: u32,
     ) -> Option<u64>
         ensures { Values program.now
-            (arguments (meaning program.now) program.now callee args.now [] (view self.old))
+            (arguments (calling token (telling program.now)) program.now callee args.now [] (view self.old))
             self.new result }
     {
         let depth = depth.saturating_sub(CALL);
         let mut list = Scalars::none(self.alloc);
-        self.call_value(program, callee, args, &mut list, depth)
+        self.call_value(program, token, callee, args, &mut list, depth)
     }
 
     // Keeps the list of a call whose scalars had no place.
@@ -86,6 +87,7 @@ impl<'a> Store<'a> {
     pub fn call_value(
         &mut self,
         program: &'a TypedProgram,
+        token: u32,
         callee: Callee,
         rest: &'a [Boxed<TypedExpr>],
         list: &mut Scalars,
@@ -93,12 +95,14 @@ impl<'a> Store<'a> {
     ) -> Option<u64>
         requires given { map Some (words list.old) ≡ list.old }
         ensures { Values program.now
-            (arguments (meaning program.now) program.now callee rest.now (words list.old) (view self.old))
+            (arguments (calling token (telling program.now)) program.now callee rest.now (words list.old)
+            (view self.old))
             self.new result }
     {
         let mut rest = rest;
         while let Some((e, more)) = rest.split_first() {
-            match self.value_of(program, e.get(), depth) {
+            let e = e.get();
+            match self.value_of(program, e, depth) {
                 Some(w) => match push_argument(list, &mut self.spare_lists, w) {
                     Ok(()) => {
                         rest = more;
@@ -108,26 +112,27 @@ impl<'a> Store<'a> {
                         return None;
                     }
                 },
-                None => return self.held_argument(program, callee, more, list),
+                None => return self.held_argument(program, e.at, token, callee, more, list),
             }
         }
-        let word = self.begin_call(program, callee, list, depth);
+        let word = self.begin_call(program, Some(token), callee, list, depth);
         self.keep(program, list, word)
     }
 
     /// A call's further step, and what the call does: its arguments stand in a list, in which the scalars of the
-    /// caller stand while the body runs.
+    /// caller stand while the body runs. A call of an expression has its token.
     #[cycle(parts)]
     #[inline(always)]
     pub fn begin_call(
         &mut self,
         program: &'a TypedProgram,
+        call: Option<u32>,
         callee: Callee,
         list: &mut Scalars,
         depth: u32,
     ) -> Option<u64>
         ensures { (done : List ℕ) → list.old ≡ map Some done → Values program.now
-            (called (meaning program.now) program.now callee done (view self.old)) self.new result }
+            (called (parts_at program.now call) program.now callee done (view self.old)) self.new result }
     {
         if self.stock == 0 {
             self.stop = Stop::Fails(Halt::NoStep);
@@ -138,7 +143,7 @@ impl<'a> Store<'a> {
             Callee::Func(f) => {
                 let is_main = f == program.main;
                 let function = program.functions.as_slice().get(f as usize);
-                self.begin_function(program, is_main, function, list, depth)
+                self.begin_function(program, call, is_main, function, list, depth)
             }
             Callee::GetChar => self.next_char(program, list),
             Callee::PutChar => self.put_char(program, list),
@@ -152,13 +157,14 @@ impl<'a> Store<'a> {
     fn begin_function(
         &mut self,
         program: &'a TypedProgram,
+        call: Option<u32>,
         is_main: bool,
         f: Option<&'a TypedFunc>,
         list: &mut Scalars,
         depth: u32,
     ) -> Option<u64>
         ensures { (done : List ℕ) → list.old ≡ map Some done → Values program.now
-            (enter (meaning program.now) is_main (behind f.entry) done (view self.old)) self.new result }
+            (enter (parts_at program.now call) is_main (behind f.entry) done (view self.old)) self.new result }
     {
         match f {
             None => self.ill_formed(program),
@@ -171,7 +177,7 @@ impl<'a> Store<'a> {
                         self.stop = Stop::Fails(Halt::TooDeep);
                         None
                     },
-                    Some(room) => { self.begin_with(program, is_main, f, list, room, depth) }
+                    Some(room) => { self.begin_with(program, call, is_main, f, list, room, depth) }
                 }
             }
         }
@@ -270,23 +276,22 @@ impl<'a> Store<'a> {
     fn held_caller(
         &mut self,
         program: &'a TypedProgram,
+        call: Option<u32>,
         is_main: bool,
         list: &mut Scalars,
         caller: Caller,
     ) -> Option<u64>
         ensures { (r : Meant) → Stopped program.now r self.old
-            → Values program.now (then r (left is_main list.old caller.count caller.base caller.room))
+            → Values program.now (then (through_if call r) (left is_main list.old caller.count caller.base caller.room))
             self.new result }
     {
         let scalars = std::mem::replace(list, Scalars::none(self.alloc));
-        self.held(
-            program,
-            Frame::Caller {
-                is_main,
-                scalars,
-                caller,
-            },
-        )
+        let frame = Frame::Caller {
+            is_main,
+            scalars,
+            caller,
+        };
+        self.held_call(program, call, frame)
     }
 
     // What follows the body of a call: the caller goes on, or its frame is left behind a body that stopped.
@@ -294,27 +299,30 @@ impl<'a> Store<'a> {
     fn end_call(
         &mut self,
         program: &'a TypedProgram,
+        call: Option<u32>,
         is_main: bool,
         list: &mut Scalars,
         caller: Caller,
         x: Ran,
     ) -> Option<u64>
         ensures { (r : Meant) → Runs program.now r self.old x
-            → Values program.now (then r (left is_main list.old caller.count caller.base caller.room))
+            → Values program.now (then (through_if call r) (left is_main list.old caller.count caller.base caller.room))
             self.new result }
     {
         match x {
-            Ran::Stops => self.held_caller(program, is_main, list, caller),
+            Ran::Stops => self.held_caller(program, call, is_main, list, caller),
             x => self.leave_with(program, is_main, list, caller, x),
         }
     }
 
     // A call whose frame has room.
     #[cycle(parts)]
+    #[tactic(auto, using(crate::proofs::TaskMeanings::body_is))]
     #[inline(always)]
     fn begin_with(
         &mut self,
         program: &'a TypedProgram,
+        call: Option<u32>,
         is_main: bool,
         f: &'a TypedFunc,
         list: &mut Scalars,
@@ -324,7 +332,7 @@ impl<'a> Store<'a> {
         requires room { room ≡ self.old.room + frame_of f.now }
         requires small { room ≤ most_frame_bytes }
         ensures { (done : List ℕ) → list.old ≡ map Some done → Values program.now
-            (entered_if (meaning program.now) is_main true f.now done (view self.old)) self.new result }
+            (entered_if (parts_at program.now call) is_main true f.now done (view self.old)) self.new result }
     {
         let count = self.arrays.len();
         if count > 0xffff_ffff {
@@ -343,7 +351,7 @@ impl<'a> Store<'a> {
             }
             Ok(()) => {
                 let x = self.run(program, &f.body, depth);
-                self.end_call(program, is_main, list, caller, x)
+                self.end_call(program, call, is_main, list, caller, x)
             }
         }
     }

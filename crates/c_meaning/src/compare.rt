@@ -1,7 +1,7 @@
 //! The labels of a switch, compared with its value.
 
 ghost use Rattle.std.specs.Prelude.{◌≡◌, ◌++◌, List};
-ghost use Rattle.c_meaning_spec.specs.Eval.{meaning};
+ghost use Rattle.c_meaning_spec.specs.Telling.{telling};
 ghost use Rattle.c_meaning_spec.specs.Statement as meant;
 ghost use Rattle.c_meaning_spec.specs.Statement.{Target, after_switch, bodies, leading, run_from};
 ghost use Rattle.c_meaning.specs.inside.Labels.{goes_on, found};
@@ -32,9 +32,9 @@ impl<'a> Store<'a> {
     ) -> Compared<'s>
         ensures { (ts : List Target)
             → goes_on program.now result w ts (bodies here.now) (view self.new)
-            ≡ meant.compared_by w label (run_from (meaning program.now) (bodies here.now))
-            (meant.compared (meaning program.now) w ts (bodies other.now))
-            (meant.compared (meaning program.now) w ts (bodies here.now)) (view self.old) }
+            ≡ meant.compared_by w label (run_from (telling program.now) (bodies here.now))
+            (meant.compared (telling program.now) w ts (bodies other.now))
+            (meant.compared (telling program.now) w ts (bodies here.now)) (view self.old) }
     {
         match label {
             None => Compared::Passed(here),
@@ -64,7 +64,7 @@ impl<'a> Store<'a> {
     ) -> Compared<'s>
         ensures { (ts : List Target)
             → goes_on program.now result w ts (bodies here.now) (view self.new)
-            ≡ meant.compared (meaning program.now) w (leading labels.now (bodies here.now) ++ ts)
+            ≡ meant.compared (telling program.now) w (leading labels.now (bodies here.now) ++ ts)
             (bodies other.now) (view self.old) }
     {
         let mut rest = labels;
@@ -91,7 +91,7 @@ impl<'a> Store<'a> {
         w: u64,
     ) -> Compared<'s>
         ensures { found program.now result (view self.new)
-            ≡ after_switch (meaning program.now) sections.now (Signal.Value w) (view self.old) }
+            ≡ after_switch (telling program.now) sections.now (Signal.Value w) (view self.old) }
     {
         let mut here = sections;
         let mut other: &'s [TypedSection] = &[];

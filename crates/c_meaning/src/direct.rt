@@ -9,12 +9,12 @@ ghost use Rattle.c_meaning_spec.specs.declared.Fault.TheVariants.{IllFormed};
 ghost use Rattle.c_meaning_spec.specs.Word as words;
 ghost use Rattle.c_meaning_spec.specs.Statement.{dropped};
 ghost use Rattle.c_meaning_spec.specs.Task.{Of, Run};
-ghost use Rattle.c_meaning_spec.specs.Eval.{meaning};
+ghost use Rattle.c_meaning_spec.specs.Telling.{telling};
 ghost use Rattle.c_meaning.specs.inside.Ahead.{back_of};
 ghost use Rattle.c_meaning.specs.inside.View.{view, follow};
-ghost use Rattle.c_meaning.specs.inside.Direct.{Stopped, Values, Runs, Turned};
+ghost use Rattle.c_meaning.specs.inside.Direct.{Stopped, StoppedAt, Values, ValuesAt, Runs, Turned, through_if};
 
-use crate::frame::{Frame, Loop};
+use crate::frame::{Frame, Loop, Waiting};
 use crate::store::Store;
 use crate::words::{binary_of, unary_of};
 use c_meaning_spec::{Halt, Object};
@@ -46,10 +46,10 @@ pub enum Ran {
 
 impl<'a> Store<'a> {
     /// An expression that is left to be evaluated.
-    #[tactic(auto, using(crate::proofs::Unwinds::unwound))]
+    #[tactic(auto, using(crate::proofs::Unwinds::unwound, crate::proofs::TaskMeanings::told_once))]
     #[inline(never)]
     pub fn leave_expr(&mut self, program: &'a TypedProgram, e: &'a TypedExpr) -> Option<u64>
-        ensures { Values program.now (meaning program.now (Of e.now) (view self.old)) self.new result }
+        ensures { ValuesAt program.now e.now.at (telling program.now (Of e.now) (view self.old)) self.new result }
     {
         self.pending.clear();
         self.stop = Stop::AtExpr(e);
@@ -60,7 +60,7 @@ impl<'a> Store<'a> {
     #[tactic(auto, using(crate::proofs::Unwinds::unwound))]
     #[inline(never)]
     pub fn leave_stmt(&mut self, program: &'a TypedProgram, st: &'a TypedStmt)
-        ensures { Stopped program.now (meaning program.now (Run st.now) (view self.old)) self.new }
+        ensures { Stopped program.now (telling program.now (Run st.now) (view self.old)) self.new }
     {
         self.pending.clear();
         self.stop = Stop::AtStmt(st);
@@ -77,24 +77,39 @@ impl<'a> Store<'a> {
         match stop {
             Stop::Fails(_) => Ok(()),
             Stop::AtExpr(_) => {
-                self.pending.push(frame)?;
+                self.pending.push(Waiting::Follows(frame))?;
                 Ok(())
             }
             Stop::AtStmt(_) => {
-                self.pending.push(frame)?;
+                self.pending.push(Waiting::Follows(frame))?;
                 Ok(())
             }
             Stop::Gave => {
-                self.pending.push(frame)?;
+                self.pending.push(Waiting::Follows(frame))?;
                 Ok(())
             }
             Stop::Memory => Ok(()),
         }
     }
 
-    /// What follows an expression that was not evaluated to its end, of another one in which it stands.
+    // The same behind an expression.
+    fn behind_expression(
+        &mut self,
+        program: &'a TypedProgram,
+        token: u32,
+        frame: Frame<'a>,
+    ) -> Result<(), AllocError>
+        ensures { OnOk result ((r : Meant) → StoppedAt program.now token r self.old
+            → Stopped program.now (then r (back_of program.now (follow frame.entry))) self.new) }
+    {
+        self.place(program, token)?;
+        self.before(program, frame)?;
+        Ok(())
+    }
+
+    /// What follows a part of an expression that was not evaluated to its end and has no place of its own.
     #[inline(never)]
-    pub fn held(&mut self, program: &'a TypedProgram, frame: Frame<'a>) -> Option<u64>
+    pub fn held_on(&mut self, program: &'a TypedProgram, frame: Frame<'a>) -> Option<u64>
         ensures { (r : Meant) → Stopped program.now r self.old
             → Values program.now (then r (back_of program.now (follow frame.entry))) self.new result }
     {
@@ -107,7 +122,58 @@ impl<'a> Store<'a> {
         }
     }
 
-    /// The same of a statement.
+    // The same behind the body of a call.
+    fn behind_body(
+        &mut self,
+        program: &'a TypedProgram,
+        call: Option<u32>,
+        frame: Frame<'a>,
+    ) -> Result<(), AllocError>
+        ensures { OnOk result ((r : Meant) → Stopped program.now r self.old
+            → Stopped program.now (then (through_if call r) (back_of program.now (follow frame.entry)))
+            self.new) }
+    {
+        self.through(program, call)?;
+        self.before(program, frame)?;
+        Ok(())
+    }
+
+    /// What follows the body of a call, which was not run to its end.
+    pub fn held_call(
+        &mut self,
+        program: &'a TypedProgram,
+        call: Option<u32>,
+        frame: Frame<'a>,
+    ) -> Option<u64>
+        ensures { (r : Meant) → Stopped program.now r self.old
+            → Values program.now (then (through_if call r) (back_of program.now (follow frame.entry)))
+            self.new result }
+    {
+        match self.behind_body(program, call, frame) {
+            Ok(()) => None,
+            Err(_) => {
+                self.stop = Stop::Memory;
+                None
+            }
+        }
+    }
+
+    /// What follows an expression that was not evaluated to its end, of another one in which it stands.
+    #[inline(never)]
+    pub fn held(&mut self, program: &'a TypedProgram, token: u32, frame: Frame<'a>) -> Option<u64>
+        ensures { (r : Meant) → StoppedAt program.now token r self.old
+            → Values program.now (then r (back_of program.now (follow frame.entry))) self.new result }
+    {
+        match self.behind_expression(program, token, frame) {
+            Ok(()) => None,
+            Err(_) => {
+                self.stop = Stop::Memory;
+                None
+            }
+        }
+    }
+
+    /// What follows a statement that was not evaluated to its end.
     #[inline(never)]
     pub fn kept(&mut self, program: &'a TypedProgram, frame: Frame<'a>) -> Ran
         ensures { (r : Meant) → Stopped program.now r self.old
@@ -122,11 +188,26 @@ impl<'a> Store<'a> {
         }
     }
 
-    /// What follows an expression statement whose expression gave no value: nothing, where no frame stands between.
+    /// What follows an expression of a statement.
+    #[inline(never)]
+    pub fn kept_at(&mut self, program: &'a TypedProgram, token: u32, frame: Frame<'a>) -> Ran
+        ensures { (r : Meant) → StoppedAt program.now token r self.old
+            → Runs program.now (then r (back_of program.now (follow frame.entry))) self.new result }
+    {
+        match self.behind_expression(program, token, frame) {
+            Ok(()) => Ran::Stops,
+            Err(_) => {
+                self.stop = Stop::Memory;
+                Ran::Stops
+            }
+        }
+    }
+
+    /// What follows an expression statement whose expression gave no value: nothing, where nothing waits between.
     #[tactic(auto, using(crate::proofs::Unwinds::plain_gave))]
     #[inline(never)]
-    pub fn kept_plain(&mut self, program: &'a TypedProgram) -> Ran
-        ensures { (r : Meant) → Stopped program.now r self.old
+    pub fn kept_plain(&mut self, program: &'a TypedProgram, token: u32) -> Ran
+        ensures { (r : Meant) → StoppedAt program.now token r self.old
             → Runs program.now (then r dropped) self.new result }
     {
         let stop = self.stop;
@@ -135,10 +216,10 @@ impl<'a> Store<'a> {
                 if self.pending.len() == 0 {
                     Ran::Nothing
                 } else {
-                    self.kept(program, Frame::Dropped)
+                    self.kept_at(program, token, Frame::Dropped)
                 }
             }
-            _ => self.kept(program, Frame::Dropped),
+            _ => self.kept_at(program, token, Frame::Dropped),
         }
     }
 
@@ -160,6 +241,21 @@ impl<'a> Store<'a> {
             → Turned program.now l (then r (back_of program.now (follow frame.entry))) self.new result }
     {
         match self.before(program, frame) {
+            Ok(()) => Ran::Stops,
+            Err(_) => {
+                self.stop = Stop::Memory;
+                Ran::Stops
+            }
+        }
+    }
+
+    /// The same behind an expression.
+    #[inline(never)]
+    pub fn kept_turn_at(&mut self, program: &'a TypedProgram, token: u32, frame: Frame<'a>) -> Ran
+        ensures { (r : Meant) (l : Loop) → StoppedAt program.now token r self.old
+            → Turned program.now l (then r (back_of program.now (follow frame.entry))) self.new result }
+    {
+        match self.behind_expression(program, token, frame) {
             Ok(()) => Ran::Stops,
             Err(_) => {
                 self.stop = Stop::Memory;

@@ -83,6 +83,7 @@ pub enum Frame<'a> {
         row: u64,
     },
     Argument {
+        token: u32,
         callee: Callee,
         rest: &'a [Boxed<TypedExpr>],
         done: Arguments,
@@ -152,6 +153,15 @@ pub enum Frame<'a> {
         behind: &'a [TypedSection],
     },
     Returning,
+}
+
+/// What waits behind a part: what follows it, the token of the expression that it is, or that of the call whose body it
+/// is.
+#[derive(Drop)]
+pub enum Waiting<'a> {
+    Follows(Frame<'a>),
+    Place(u32),
+    Call(u32),
 }
 
 /// What is done next.

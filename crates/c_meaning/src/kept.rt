@@ -4,9 +4,9 @@ ghost use Rattle.c_meaning_spec.specs.State.{Result as Meant};
 ghost use Rattle.c_meaning_spec.specs.inside.State.{then};
 ghost use Rattle.c_meaning_spec.specs.Task.{Turn};
 ghost use Rattle.c_meaning_spec.specs.Statement as meant;
-ghost use Rattle.c_meaning_spec.specs.Eval.{meaning};
+ghost use Rattle.c_meaning_spec.specs.Telling.{telling};
 ghost use Rattle.c_meaning.specs.inside.View.{behind};
-ghost use Rattle.c_meaning.specs.inside.Direct.{Stopped, Runs, Turned};
+ghost use Rattle.c_meaning.specs.inside.Direct.{Stopped, StoppedAt, Runs, Turned};
 
 use crate::direct::Ran;
 use crate::frame::{Frame, Loop, Stage};
@@ -19,32 +19,33 @@ impl<'a> Store<'a> {
     pub fn kept_if(
         &mut self,
         program: &'a TypedProgram,
+        token: u32,
         first: &'a TypedStmt,
         other: Option<&'a TypedStmt>,
     ) -> Ran
-        ensures { (r : Meant) → Stopped program.now r self.old
+        ensures { (r : Meant) → StoppedAt program.now token r self.old
             → Runs program.now (then r
-            (meant.after_if (meaning program.now) first.now (behind other.entry))) self.new result }
+            (meant.after_if (telling program.now) first.now (behind other.entry))) self.new result }
     {
-        self.kept(program, Frame::If { first, other })
+        self.kept_at(program, token, Frame::If { first, other })
     }
 
     /// A return follows its value.
     #[inline(never)]
-    pub fn kept_return(&mut self, program: &'a TypedProgram) -> Ran
-        ensures { (r : Meant) → Stopped program.now r self.old
+    pub fn kept_return(&mut self, program: &'a TypedProgram, token: u32) -> Ran
+        ensures { (r : Meant) → StoppedAt program.now token r self.old
             → Runs program.now (then r (meant.returning)) self.new result }
     {
-        self.kept(program, Frame::Returning)
+        self.kept_at(program, token, Frame::Returning)
     }
 
     /// A local is set after its initialiser.
     #[inline(never)]
-    pub fn kept_initial(&mut self, program: &'a TypedProgram, i: u32) -> Ran
-        ensures { (r : Meant) → Stopped program.now r self.old
+    pub fn kept_initial(&mut self, program: &'a TypedProgram, token: u32, i: u32) -> Ran
+        ensures { (r : Meant) → StoppedAt program.now token r self.old
             → Runs program.now (then r (meant.initialised i)) self.new result }
     {
-        self.kept(program, Frame::Initialised(i))
+        self.kept_at(program, token, Frame::Initialised(i))
     }
 
     /// Statements follow one before them: none, where it was the last.
@@ -53,7 +54,7 @@ impl<'a> Store<'a> {
     pub fn kept_rest(&mut self, program: &'a TypedProgram, rest: &'a [TypedStmt]) -> Ran
         ensures { (r : Meant) → Stopped program.now r self.old
             → Runs program.now (then r
-            (λ v s. meant.going_on v s (meant.sequence (meaning program.now) rest.now))) self.new result }
+            (λ v s. meant.going_on v s (meant.sequence (telling program.now) rest.now))) self.new result }
     {
         if rest.len() == 0 {
             Ran::Stops
@@ -64,10 +65,10 @@ impl<'a> Store<'a> {
 
     /// The first turn of a loop follows its first part.
     #[inline(never)]
-    pub fn kept_first(&mut self, program: &'a TypedProgram, turn: Loop<'a>) -> Ran
-        ensures { (r : Meant) → Stopped program.now r self.old
+    pub fn kept_first(&mut self, program: &'a TypedProgram, token: u32, turn: Loop<'a>) -> Ran
+        ensures { (r : Meant) → StoppedAt program.now token r self.old
             → Runs program.now (then r
-            (λ v s. meaning program.now (Turn (behind turn.entry.test) (behind turn.entry.post)
+            (λ v s. telling program.now (Turn (behind turn.entry.test) (behind turn.entry.post)
             turn.entry.body.now) s)) self.new result }
     {
         let frame = Frame::Turning {
@@ -75,7 +76,7 @@ impl<'a> Store<'a> {
             rest: &[],
             turn,
         };
-        self.kept(program, frame)
+        self.kept_at(program, token, frame)
     }
 
     /// The further declarations of a `for` follow one, and then its turns.
@@ -88,7 +89,7 @@ impl<'a> Store<'a> {
     ) -> Ran
         ensures { (r : Meant) → Stopped program.now r self.old
             → Runs program.now (then r
-            (λ v s. meant.going_on v s (meant.locals (meaning program.now) rest.now
+            (λ v s. meant.going_on v s (meant.locals (telling program.now) rest.now
             (behind turn.entry.test) (behind turn.entry.post) turn.entry.body.now)))
             self.new result }
     {
@@ -102,10 +103,10 @@ impl<'a> Store<'a> {
 
     /// A loop's body follows its test.
     #[inline(never)]
-    pub fn kept_test(&mut self, program: &'a TypedProgram, turn: Loop<'a>) -> Ran
-        ensures { (r : Meant) → Stopped program.now r self.old
+    pub fn kept_test(&mut self, program: &'a TypedProgram, token: u32, turn: Loop<'a>) -> Ran
+        ensures { (r : Meant) → StoppedAt program.now token r self.old
             → Turned program.now turn.entry (then r
-            (meant.after_test (meaning program.now) (behind turn.entry.test) (behind turn.entry.post)
+            (meant.after_test (telling program.now) (behind turn.entry.test) (behind turn.entry.post)
             turn.entry.body.now)) self.new result }
     {
         let frame = Frame::Turning {
@@ -113,7 +114,7 @@ impl<'a> Store<'a> {
             rest: &[],
             turn,
         };
-        self.kept_turn(program, frame)
+        self.kept_turn_at(program, token, frame)
     }
 
     /// What follows the body of a loop.
@@ -121,7 +122,7 @@ impl<'a> Store<'a> {
     pub fn kept_body(&mut self, program: &'a TypedProgram, turn: Loop<'a>) -> Ran
         ensures { (r : Meant) → Stopped program.now r self.old
             → Turned program.now turn.entry (then r
-            (meant.after_body (meaning program.now) (behind turn.entry.test) (behind turn.entry.post)
+            (meant.after_body (telling program.now) (behind turn.entry.test) (behind turn.entry.post)
             turn.entry.body.now)) self.new result }
     {
         let frame = Frame::Turning {
@@ -134,10 +135,10 @@ impl<'a> Store<'a> {
 
     /// The next turn of a loop follows its last part.
     #[inline(never)]
-    pub fn kept_post(&mut self, program: &'a TypedProgram, turn: Loop<'a>) -> Ran
-        ensures { (r : Meant) → Stopped program.now r self.old
+    pub fn kept_post(&mut self, program: &'a TypedProgram, token: u32, turn: Loop<'a>) -> Ran
+        ensures { (r : Meant) → StoppedAt program.now token r self.old
             → Turned program.now turn.entry (then r
-            (λ v s. meaning program.now (Turn (behind turn.entry.test) (behind turn.entry.post)
+            (λ v s. telling program.now (Turn (behind turn.entry.test) (behind turn.entry.post)
             turn.entry.body.now) s)) self.new result }
     {
         let frame = Frame::Turning {
@@ -145,6 +146,6 @@ impl<'a> Store<'a> {
             rest: &[],
             turn,
         };
-        self.kept_turn(program, frame)
+        self.kept_turn_at(program, token, frame)
     }
 }

@@ -20,6 +20,7 @@ mod ints;
 mod kept;
 mod loops;
 mod machine;
+mod marks;
 mod operations;
 mod outcome;
 mod resume;

@@ -4,7 +4,7 @@ ghost use Rattle.c_tree.specs.declared.TypedForInit.{out-TypedForInit};
 ghost use Rattle.c_meaning_spec.specs.inside.State.{then};
 ghost use Rattle.c_meaning_spec.specs.Task.{Of, Run, Turn};
 ghost use Rattle.c_meaning_spec.specs.Statement as meant;
-ghost use Rattle.c_meaning_spec.specs.Eval.{meaning};
+ghost use Rattle.c_meaning_spec.specs.Telling.{telling};
 ghost use Rattle.c_meaning.specs.inside.View.{behind, view};
 ghost use Rattle.c_meaning.specs.inside.Direct.{Runs, Turned};
 
@@ -20,14 +20,14 @@ impl<'a> Store<'a> {
     #[inline(always)]
     pub fn run_post(&mut self, program: &'a TypedProgram, turn: Loop<'a>, depth: u32) -> Ran
         ensures { Turned program.now turn.entry
-            (meant.then_turn (meaning program.now) (behind turn.entry.post) (behind turn.entry.test)
+            (meant.then_turn (telling program.now) (behind turn.entry.post) (behind turn.entry.test)
             (behind turn.entry.post) turn.entry.body.now (view self.old)) self.new result }
     {
         match turn.post {
             None => Ran::Continues,
             Some(e) => match self.value_of(program, e, depth) {
                 Some(_) => Ran::Continues,
-                None => self.kept_post(program, turn),
+                None => self.kept_post(program, e.at, turn),
             },
         }
     }
@@ -37,8 +37,8 @@ impl<'a> Store<'a> {
     #[inline(always)]
     pub fn run_body(&mut self, program: &'a TypedProgram, turn: Loop<'a>, depth: u32) -> Ran
         ensures { Turned program.now turn.entry
-            (then (meaning program.now (Run turn.entry.body.now) (view self.old))
-            (meant.after_body (meaning program.now) (behind turn.entry.test) (behind turn.entry.post)
+            (then (telling program.now (Run turn.entry.body.now) (view self.old))
+            (meant.after_body (telling program.now) (behind turn.entry.test) (behind turn.entry.post)
             turn.entry.body.now)) self.new result }
     {
         match self.run(program, turn.body, depth) {
@@ -61,8 +61,8 @@ impl<'a> Store<'a> {
         depth: u32,
     ) -> Ran
         ensures { Turned program.now turn.entry
-            (then (meaning program.now (Of test.now) (view self.old))
-            (meant.after_test (meaning program.now) (behind turn.entry.test) (behind turn.entry.post)
+            (then (telling program.now (Of test.now) (view self.old))
+            (meant.after_test (telling program.now) (behind turn.entry.test) (behind turn.entry.post)
             turn.entry.body.now)) self.new result }
     {
         match self.value_of(program, test, depth) {
@@ -73,7 +73,7 @@ impl<'a> Store<'a> {
                     self.run_body(program, turn, depth)
                 }
             }
-            None => self.kept_test(program, turn),
+            None => self.kept_test(program, test.at, turn),
         }
     }
 
@@ -83,7 +83,7 @@ impl<'a> Store<'a> {
     #[inline(always)]
     fn run_turn(&mut self, program: &'a TypedProgram, turn: Loop<'a>, depth: u32) -> Ran
         ensures { Turned program.now turn.entry
-            (meaning program.now (Turn (behind turn.entry.test) (behind turn.entry.post)
+            (telling program.now (Turn (behind turn.entry.test) (behind turn.entry.post)
             turn.entry.body.now) (view self.old)) self.new result }
     {
         match turn.test {
@@ -97,7 +97,7 @@ impl<'a> Store<'a> {
     #[inline(never)]
     pub fn run_loop(&mut self, program: &'a TypedProgram, turn: Loop<'a>, depth: u32) -> Ran
         ensures { Runs program.now
-            (meaning program.now (Turn (behind turn.entry.test) (behind turn.entry.post)
+            (telling program.now (Turn (behind turn.entry.test) (behind turn.entry.post)
             turn.entry.body.now) (view self.old)) self.new result }
     {
         let depth = depth.saturating_sub(LOOP);
@@ -119,8 +119,8 @@ impl<'a> Store<'a> {
     #[inline(never)]
     pub fn run_do(&mut self, program: &'a TypedProgram, turn: Loop<'a>, depth: u32) -> Ran
         ensures { Runs program.now
-            (then (meaning program.now (Run turn.entry.body.now) (view self.old))
-            (meant.after_body (meaning program.now) (behind turn.entry.test) (behind turn.entry.post)
+            (then (telling program.now (Run turn.entry.body.now) (view self.old))
+            (meant.after_body (telling program.now) (behind turn.entry.test) (behind turn.entry.post)
             turn.entry.body.now)) self.new result }
     {
         let depth = depth.saturating_sub(LOOP);
@@ -144,7 +144,7 @@ impl<'a> Store<'a> {
         depth: u32,
     ) -> Ran
         ensures { Runs program.now
-            (meant.begin (meaning program.now) (out-TypedForInit init.now) (behind turn.entry.test)
+            (meant.begin (telling program.now) (out-TypedForInit init.now) (behind turn.entry.test)
             (behind turn.entry.post) turn.entry.body.now (view self.old)) self.new result }
     {
         let depth = depth.saturating_sub(LOOP);
@@ -152,7 +152,7 @@ impl<'a> Store<'a> {
             TypedForInit::Nothing => self.run_loop(program, turn, depth),
             TypedForInit::First(e) => match self.value_of(program, e.get(), depth) {
                 Some(_) => self.run_loop(program, turn, depth),
-                None => self.kept_first(program, turn),
+                None => self.kept_first(program, e.get().at, turn),
             },
             TypedForInit::Locals(all) => self.run_locals(program, all.as_slice(), turn, depth),
         }
@@ -169,7 +169,7 @@ impl<'a> Store<'a> {
         depth: u32,
     ) -> Ran
         ensures { Runs program.now
-            (meant.locals (meaning program.now) all.now (behind turn.entry.test)
+            (meant.locals (telling program.now) all.now (behind turn.entry.test)
             (behind turn.entry.post) turn.entry.body.now (view self.old)) self.new result }
     {
         let depth = depth.saturating_sub(LOOP);

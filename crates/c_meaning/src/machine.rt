@@ -2,11 +2,11 @@
 
 ghost use Rattle.std.specs.Prelude.{◌≡◌, ◌++◌, map, IfOk, OnOk};
 ghost use Rattle.c_meaning_spec.specs.State.{Result as Reached};
-ghost use Rattle.c_meaning.specs.inside.Direct.{Leads, Runs, Stopped, Values};
-ghost use Rattle.c_meaning.specs.inside.View.{follow, frames, view};
+ghost use Rattle.c_meaning.specs.inside.Direct.{Leads, Runs, Stopped, Values, ValuesAt};
+ghost use Rattle.c_meaning.specs.inside.View.{frames, view, waits};
 
 use crate::direct::{Ran, Stop};
-use crate::frame::{Frame, Move, Task};
+use crate::frame::{Move, Task, Waiting};
 use crate::store::Store;
 use c_meaning_spec::Signal;
 use c_tree::TypedProgram;
@@ -16,7 +16,7 @@ use std::alloc::AllocError;
 #[derive(Drop)]
 pub struct Machine<'a> {
     pub store: Store<'a>,
-    pub stack: Vec<Frame<'a>>,
+    pub stack: Vec<Waiting<'a>>,
 }
 
 impl<'a> Machine<'a> {
@@ -24,7 +24,7 @@ impl<'a> Machine<'a> {
     #[tactic(auto, using(crate::proofs::EvaluatorLoop::turned_over))]
     fn stack_pending(&mut self) -> Result<(), AllocError>
         ensures kept { OnOk result (frames self.new.stack.items
-            ≡ map follow self.old.store.pending.items ++ frames self.old.stack.items) }
+            ≡ map waits self.old.store.pending.items ++ frames self.old.stack.items) }
         ensures same { OnOk result (view self.new.store ≡ view self.old.store) }
     {
         self.store.pending.reverse();
@@ -34,7 +34,7 @@ impl<'a> Machine<'a> {
 
     // What is to be done first where a part was not evaluated to its end.
     #[inline(never)]
-    #[tactic(auto, using(crate::proofs::EvaluatorLoop::both_follow, crate::proofs::EvaluatorLoop::both_given))]
+    #[tactic(auto, using(crate::proofs::EvaluatorLoop::both_wait))]
     fn stopped(&mut self, program: &'a TypedProgram) -> Result<Move<'a>, AllocError>
         ensures { IfOk result (λ m. (r : Reached) → Stopped program.now r self.old.store
             → Leads program.now r self.old self.new m) }
@@ -71,6 +71,26 @@ impl<'a> Machine<'a> {
         match word {
             Some(w) => Ok(Move::Give(Signal::Value(w))),
             None => {
+                let moved = self.stopped(program)?;
+                Ok(moved)
+            }
+        }
+    }
+
+    /// The same of an expression whose place is not told yet.
+    pub fn valued_at(
+        &mut self,
+        program: &'a TypedProgram,
+        token: u32,
+        word: Option<u64>,
+    ) -> Result<Move<'a>, AllocError>
+        ensures { IfOk result (λ m. (r : Reached) → ValuesAt program.now token r self.old.store word
+            → Leads program.now r self.old self.new m) }
+    {
+        match word {
+            Some(w) => Ok(Move::Give(Signal::Value(w))),
+            None => {
+                self.store.place(program, token)?;
                 let moved = self.stopped(program)?;
                 Ok(moved)
             }

@@ -5,7 +5,7 @@ ghost use Rattle.c_meaning_spec.specs.Task.{Of};
 ghost use Rattle.c_meaning_spec.specs.Expression.{binary, operated, valued};
 ghost use Rattle.c_meaning_spec.specs.Expression.{after_left, after_and, after_or, after_choice, after_comma};
 ghost use Rattle.c_meaning_spec.specs.Expression as meant_expression;
-ghost use Rattle.c_meaning_spec.specs.Eval.{meaning};
+ghost use Rattle.c_meaning_spec.specs.Telling.{telling};
 ghost use Rattle.c_meaning.specs.inside.View.{view};
 ghost use Rattle.c_meaning.specs.inside.Direct.{Values};
 
@@ -27,7 +27,7 @@ impl<'a> Store<'a> {
         depth: u32,
     ) -> Option<u64>
         ensures { Values program.now
-            (binary (meaning program.now) op left.now right.now (view self.old)) self.new result }
+            (binary (telling program.now) op left.now right.now (view self.old)) self.new result }
     {
         match op {
             BinaryOp::LogicalAnd => self.and_value(program, left, right, depth),
@@ -48,12 +48,12 @@ impl<'a> Store<'a> {
         depth: u32,
     ) -> Option<u64>
         ensures { Values program.now
-            (then (meaning program.now (Of left.now) (view self.old))
-            (after_left (meaning program.now) op left.now.kind right.now)) self.new result }
+            (then (telling program.now (Of left.now) (view self.old))
+            (after_left (telling program.now) op left.now.kind right.now)) self.new result }
     {
         match self.value_of(program, left, depth) {
             Some(a) => self.right_value(program, op, left.kind, a, right, depth),
-            None => self.held_left(program, op, left.kind, right),
+            None => self.held_left(program, left.at, op, left.kind, right),
         }
     }
 
@@ -70,11 +70,11 @@ impl<'a> Store<'a> {
         depth: u32,
     ) -> Option<u64>
         ensures { Values program.now
-            (then (meaning program.now (Of right.now) (view self.old)) (operated op kind a)) self.new result }
+            (then (telling program.now (Of right.now) (view self.old)) (operated op kind a)) self.new result }
     {
         match self.value_of(program, right, depth) {
             Some(b) => self.binary_given(program, op, kind, a, b),
-            None => self.held_right(program, op, kind, a),
+            None => self.held_right(program, right.at, op, kind, a),
         }
     }
 
@@ -87,12 +87,12 @@ impl<'a> Store<'a> {
         depth: u32,
     ) -> Option<u64>
         ensures { Values program.now
-            (then (meaning program.now (Of e.now) (view self.old)) meant_expression.truth) self.new result }
+            (then (telling program.now (Of e.now) (view self.old)) meant_expression.truth) self.new result }
     {
         let depth = depth.saturating_sub(OPERATION);
         match self.value_of(program, e, depth) {
             Some(w) => if w == 0 { Some(0) } else { Some(1) },
-            None => self.held(program, Frame::Truth),
+            None => self.held(program, e.at, Frame::Truth),
         }
     }
 
@@ -107,8 +107,8 @@ impl<'a> Store<'a> {
         depth: u32,
     ) -> Option<u64>
         ensures { Values program.now
-            (then (meaning program.now (Of left.now) (view self.old))
-            (after_and (meaning program.now) right.now)) self.new result }
+            (then (telling program.now (Of left.now) (view self.old))
+            (after_and (telling program.now) right.now)) self.new result }
     {
         let depth = depth.saturating_sub(OPERATION);
         match self.value_of(program, left, depth) {
@@ -119,7 +119,7 @@ impl<'a> Store<'a> {
                     self.truth_value(program, right, depth)
                 }
             }
-            None => self.held_and(program, right),
+            None => self.held_and(program, left.at, right),
         }
     }
 
@@ -134,8 +134,8 @@ impl<'a> Store<'a> {
         depth: u32,
     ) -> Option<u64>
         ensures { Values program.now
-            (then (meaning program.now (Of left.now) (view self.old))
-            (after_or (meaning program.now) right.now)) self.new result }
+            (then (telling program.now (Of left.now) (view self.old))
+            (after_or (telling program.now) right.now)) self.new result }
     {
         let depth = depth.saturating_sub(OPERATION);
         match self.value_of(program, left, depth) {
@@ -146,7 +146,7 @@ impl<'a> Store<'a> {
                     Some(1)
                 }
             }
-            None => self.held_or(program, right),
+            None => self.held_or(program, left.at, right),
         }
     }
 
@@ -159,12 +159,12 @@ impl<'a> Store<'a> {
         depth: u32,
     ) -> Option<u64>
         ensures { Values program.now
-            (then (meaning program.now (Of e.now) (view self.old)) valued) self.new result }
+            (then (telling program.now (Of e.now) (view self.old)) valued) self.new result }
     {
         let depth = depth.saturating_sub(OPERATION);
         match self.value_of(program, e, depth) {
             Some(w) => Some(w),
-            None => self.held(program, Frame::Valued),
+            None => self.held(program, e.at, Frame::Valued),
         }
     }
 
@@ -180,8 +180,8 @@ impl<'a> Store<'a> {
         depth: u32,
     ) -> Option<u64>
         ensures { Values program.now
-            (then (meaning program.now (Of test.now) (view self.old))
-            (after_choice (meaning program.now) first.now other.now)) self.new result }
+            (then (telling program.now (Of test.now) (view self.old))
+            (after_choice (telling program.now) first.now other.now)) self.new result }
     {
         let depth = depth.saturating_sub(OPERATION);
         match self.value_of(program, test, depth) {
@@ -192,7 +192,7 @@ impl<'a> Store<'a> {
                     self.same_value(program, first, depth)
                 }
             }
-            None => self.held(program, Frame::Choice { first, other }),
+            None => self.held(program, test.at, Frame::Choice { first, other }),
         }
     }
 
@@ -207,15 +207,15 @@ impl<'a> Store<'a> {
         depth: u32,
     ) -> Option<u64>
         ensures { Values program.now
-            (then (meaning program.now (Of left.now) (view self.old))
-            (after_comma (meaning program.now) right.now)) self.new result }
+            (then (telling program.now (Of left.now) (view self.old))
+            (after_comma (telling program.now) right.now)) self.new result }
     {
         let depth = depth.saturating_sub(OPERATION);
         match self.value_of(program, left, depth) {
             Some(_) => self.same_value(program, right, depth),
             None => {
                 let operand = Operand::OfComma;
-                self.held(program, Frame::Operand { operand, right })
+                self.held(program, left.at, Frame::Operand { operand, right })
             }
         }
     }

@@ -4,7 +4,7 @@ ghost use Rattle.std.specs.Prelude.{IfOk, ◌++◌};
 ghost use Rattle.c_meaning_spec.specs.inside.State.{then};
 ghost use Rattle.c_meaning_spec.specs.Statement as meant;
 ghost use Rattle.c_meaning_spec.specs.Statement.{bodies};
-ghost use Rattle.c_meaning_spec.specs.Eval.{meaning};
+ghost use Rattle.c_meaning_spec.specs.Telling.{telling};
 ghost use Rattle.c_meaning.specs.inside.Ahead.{back_of};
 ghost use Rattle.c_meaning.specs.inside.Direct.{Leads};
 ghost use Rattle.c_meaning.specs.inside.View.{behind, follow, view};
@@ -59,7 +59,7 @@ impl<'a> Machine<'a> {
         w: u64,
     ) -> Result<Move<'a>, AllocError>
         ensures { IfOk result (Leads program.now
-            (meant.after_if (meaning program.now) first.now (behind other.entry) (Signal.Value w)
+            (meant.after_if (telling program.now) first.now (behind other.entry) (Signal.Value w)
             (view self.old.store)) self.old self.new) }
     {
         let x = self.store.branch(program, first, other, w);
@@ -76,7 +76,7 @@ impl<'a> Machine<'a> {
         w: u64,
     ) -> Result<Move<'a>, AllocError>
         ensures { IfOk result (Leads program.now
-            (meant.after_test (meaning program.now) (behind turn.entry.test) (behind turn.entry.post)
+            (meant.after_test (telling program.now) (behind turn.entry.test) (behind turn.entry.post)
             turn.entry.body.now (Signal.Value w) (view self.old.store)) self.old self.new) }
     {
         let x = self.store.body_after(program, turn, w);
@@ -93,7 +93,7 @@ impl<'a> Machine<'a> {
         w: u64,
     ) -> Result<Move<'a>, AllocError>
         ensures { IfOk result (Leads program.now
-            (meant.after_switch (meaning program.now) sections.now (Signal.Value w) (view self.old.store))
+            (meant.after_switch (telling program.now) sections.now (Signal.Value w) (view self.old.store))
             self.old self.new) }
     {
         let x = self.store.run_labels(program, sections, w, MOST_DEPTH);
@@ -135,7 +135,7 @@ impl<'a> Machine<'a> {
         signal: Signal,
     ) -> Result<Move<'a>, AllocError>
         ensures { IfOk result (Leads program.now
-            (meant.going_on signal (view self.old.store) (meant.sequence (meaning program.now) rest.now))
+            (meant.going_on signal (view self.old.store) (meant.sequence (telling program.now) rest.now))
             self.old self.new) }
     {
         match signal {
@@ -158,7 +158,7 @@ impl<'a> Machine<'a> {
         signal: Signal,
     ) -> Result<Move<'a>, AllocError>
         ensures { IfOk result (Leads program.now
-            (meant.going_on signal (view self.old.store) (meant.locals (meaning program.now) rest.now
+            (meant.going_on signal (view self.old.store) (meant.locals (telling program.now) rest.now
             (behind turn.entry.test) (behind turn.entry.post) turn.entry.body.now))
             self.old self.new) }
     {
@@ -181,7 +181,7 @@ impl<'a> Machine<'a> {
         signal: Signal,
     ) -> Result<Move<'a>, AllocError>
         ensures { IfOk result (Leads program.now
-            (meant.after_body (meaning program.now) (behind turn.entry.test) (behind turn.entry.post)
+            (meant.after_body (telling program.now) (behind turn.entry.test) (behind turn.entry.post)
             turn.entry.body.now signal (view self.old.store)) self.old self.new) }
     {
         match signal {
@@ -211,7 +211,7 @@ impl<'a> Machine<'a> {
     ) -> Result<Move<'a>, AllocError>
         ensures { IfOk result (Leads program.now
             (then (meant.going_on signal (view self.old.store)
-            (meant.sequence (meaning program.now) (rest.now ++ bodies behind.now))) meant.after_sections)
+            (meant.sequence (telling program.now) (rest.now ++ bodies behind.now))) meant.after_sections)
             self.old self.new) }
     {
         match signal {

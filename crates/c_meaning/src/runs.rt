@@ -7,7 +7,7 @@ ghost use Rattle.c_meaning_spec.specs.inside.State.{then};
 ghost use Rattle.c_meaning_spec.specs.Task.{Of, Run};
 ghost use Rattle.c_meaning_spec.specs.Statement as meant;
 ghost use Rattle.c_meaning_spec.specs.Statement.{bodies};
-ghost use Rattle.c_meaning_spec.specs.Eval.{meaning};
+ghost use Rattle.c_meaning_spec.specs.Telling.{telling};
 ghost use Rattle.c_meaning.specs.inside.View.{behind, view};
 ghost use Rattle.c_meaning.specs.inside.Direct.{Runs};
 
@@ -60,11 +60,11 @@ impl<'a> Store<'a> {
     #[inline(always)]
     fn run_plain(&mut self, program: &'a TypedProgram, e: &'a TypedExpr, depth: u32) -> Ran
         ensures { Runs program.now
-            (then (meaning program.now (Of e.now) (view self.old)) meant.dropped) self.new result }
+            (then (telling program.now (Of e.now) (view self.old)) meant.dropped) self.new result }
     {
         match self.value_of(program, e, depth) {
             Some(_) => Ran::Nothing,
-            None => self.kept_plain(program),
+            None => self.kept_plain(program, e.at),
         }
     }
 
@@ -73,14 +73,14 @@ impl<'a> Store<'a> {
     #[inline(always)]
     fn run_return(&mut self, program: &'a TypedProgram, e: &'a TypedExpr, depth: u32) -> Ran
         ensures { Runs program.now
-            (then (meaning program.now (Of e.now) (view self.old)) meant.returning) self.new result }
+            (then (telling program.now (Of e.now) (view self.old)) meant.returning) self.new result }
     {
         match self.value_of(program, e, depth) {
             Some(w) => {
                 self.returned = Some(w);
                 Ran::Returns
             },
-            None => self.kept_return(program),
+            None => self.kept_return(program, e.at),
         }
     }
 
@@ -94,11 +94,11 @@ impl<'a> Store<'a> {
         depth: u32,
     ) -> Ran
         ensures { Runs program.now
-            (then (meaning program.now (Of e.now) (view self.old)) (meant.initialised i)) self.new result }
+            (then (telling program.now (Of e.now) (view self.old)) (meant.initialised i)) self.new result }
     {
         match self.value_of(program, e, depth) {
             Some(w) => self.initial(program, i, w),
-            None => self.kept_initial(program, i),
+            None => self.kept_initial(program, e.at, i),
         }
     }
 
@@ -132,7 +132,7 @@ impl<'a> Store<'a> {
         depth: u32,
     ) -> Ran
         ensures { Runs program.now
-            (meant.declare (meaning program.now) place (behind init.entry) (view self.old)) self.new result }
+            (meant.declare (telling program.now) place (behind init.entry) (view self.old)) self.new result }
     {
         let depth = depth.saturating_sub(PLAIN);
         match place {
@@ -166,7 +166,7 @@ impl<'a> Store<'a> {
     #[tactic(auto, using(crate::proofs::TaskMeanings::run_is))]
     pub fn run(&mut self, program: &'a TypedProgram, st: &'a TypedStmt, depth: u32) -> Ran
         ensures { Runs program.now
-            (meaning program.now (Run st.now) (view self.old)) self.new result }
+            (telling program.now (Run st.now) (view self.old)) self.new result }
     {
         if depth < STATEMENT {
             self.leave_stmt(program, st);
@@ -187,7 +187,7 @@ impl<'a> Store<'a> {
     #[inline(always)]
     fn begun(&mut self, program: &'a TypedProgram, st: &'a TypedStmt, depth: u32) -> Ran
         ensures { Runs program.now
-            (meant.begun (meaning program.now) (out-TypedStmt st.now) (view self.old)) self.new result }
+            (meant.begun (telling program.now) (out-TypedStmt st.now) (view self.old)) self.new result }
     {
         match st {
             TypedStmt::Declare { place, init } => self.run_declare(
@@ -251,7 +251,7 @@ impl<'a> Store<'a> {
     #[inline(never)]
     pub fn run_all(&mut self, program: &'a TypedProgram, all: &'a [TypedStmt], depth: u32) -> Ran
         ensures { Runs program.now
-            (meant.sequence (meaning program.now) all.now (view self.old)) self.new result }
+            (meant.sequence (telling program.now) all.now (view self.old)) self.new result }
     {
         let depth = depth.saturating_sub(PLAIN);
         let mut rest = all;
@@ -281,8 +281,8 @@ impl<'a> Store<'a> {
         depth: u32,
     ) -> Ran
         ensures { Runs program.now
-            (then (meaning program.now (Of test.now) (view self.old))
-            (meant.after_if (meaning program.now) first.now (behind other.entry))) self.new result }
+            (then (telling program.now (Of test.now) (view self.old))
+            (meant.after_if (telling program.now) first.now (behind other.entry))) self.new result }
     {
         let depth = depth.saturating_sub(PLAIN);
         match self.value_of(program, test, depth) {
@@ -296,7 +296,7 @@ impl<'a> Store<'a> {
                     self.run(program, first, depth)
                 }
             }
-            None => self.kept_if(program, first, other),
+            None => self.kept_if(program, test.at, first, other),
         }
     }
 
@@ -311,13 +311,13 @@ impl<'a> Store<'a> {
         depth: u32,
     ) -> Ran
         ensures { Runs program.now
-            (then (meaning program.now (Of test.now) (view self.old))
-            (meant.after_switch (meaning program.now) sections.now)) self.new result }
+            (then (telling program.now (Of test.now) (view self.old))
+            (meant.after_switch (telling program.now) sections.now)) self.new result }
     {
         let depth = depth.saturating_sub(SWITCH);
         match self.value_of(program, test, depth) {
             Some(w) => self.run_labels(program, sections, w, depth),
-            None => self.kept(program, Frame::Switch(sections)),
+            None => self.kept_at(program, test.at, Frame::Switch(sections)),
         }
     }
 
@@ -331,7 +331,7 @@ impl<'a> Store<'a> {
         depth: u32,
     ) -> Ran
         ensures { Runs program.now
-            (meant.after_switch (meaning program.now) sections.now (Signal.Value w) (view self.old)) self.new result }
+            (meant.after_switch (telling program.now) sections.now (Signal.Value w) (view self.old)) self.new result }
     {
         match self.find_label(program, sections, w) {
             Compared::Passed(here) => self.run_sections(program, &[], here, depth),
@@ -354,7 +354,7 @@ impl<'a> Store<'a> {
         depth: u32,
     ) -> Ran
         ensures { Runs program.now
-            (meant.run_from (meaning program.now) (first.now ++ bodies behind.now) (view self.old))
+            (meant.run_from (telling program.now) (first.now ++ bodies behind.now) (view self.old))
             self.new result }
     {
         let depth = depth.saturating_sub(SWITCH);

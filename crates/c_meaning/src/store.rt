@@ -9,7 +9,7 @@ ghost use Rattle.c_meaning.specs.inside.View.{view};
 
 use crate::arrays::Arrays;
 use crate::direct::Stop;
-use crate::frame::Frame;
+use crate::frame::Waiting;
 use crate::scalars::Scalars;
 use c_meaning_spec::Object;
 use c_tree::Place;
@@ -17,7 +17,8 @@ use std::alloc::{AllocError, Global};
 
 /// What an evaluation goes over, and the frames of what is to follow where a part was not evaluated to its end.
 ///
-/// The lists of scalars that have no place are used again by later calls.
+/// The lists of scalars that have no place are used again by later calls. Where the evaluation stopped is told on the
+/// way back alone.
 #[derive(Drop)]
 pub struct Store<'a> {
     pub alloc: Global,
@@ -31,8 +32,10 @@ pub struct Store<'a> {
     pub room: u32,
     pub stop: Stop<'a>,
     pub returned: Option<u64>,
-    pub pending: Vec<Frame<'a>>,
+    pub pending: Vec<Waiting<'a>>,
     pub spare_lists: Vec<Vec<Option<u64>>>,
+    pub told_at: Option<u32>,
+    pub told_calls: Vec<u32>,
 }
 
 /// The second size of an array, if it is there and has two.

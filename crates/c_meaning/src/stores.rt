@@ -11,7 +11,7 @@ ghost use Rattle.c_meaning_spec.specs.Task.{Of, element_of as element_in_place, 
 ghost use Rattle.c_meaning_spec.specs.Expression.{assign, assign_to, assigned};
 ghost use Rattle.c_meaning_spec.specs.Expression as meant_expression;
 ghost use Rattle.c_meaning_spec.specs.Word as words;
-ghost use Rattle.c_meaning_spec.specs.Eval.{meaning};
+ghost use Rattle.c_meaning_spec.specs.Telling.{telling};
 ghost use Rattle.c_meaning.specs.inside.View.{view};
 ghost use Rattle.c_meaning.specs.inside.Direct.{Values};
 
@@ -76,7 +76,7 @@ impl<'a> Store<'a> {
         depth: u32,
     ) -> Option<u64>
         ensures { Values program.now
-            (assign (meaning program.now) op left.now.kind at (node_of left.now) right.now
+            (assign (telling program.now) op left.now.kind at (node_of left.now) right.now
             (view self.old)) self.new result }
     {
         let to = left.kind;
@@ -110,12 +110,12 @@ impl<'a> Store<'a> {
         depth: u32,
     ) -> Option<u64>
         ensures { Values program.now
-            (then (meaning program.now (Of index.now) (view self.old))
-            (meant_expression.assign_element (meaning program.now) op to at place right.now)) self.new result }
+            (then (telling program.now (Of index.now) (view self.old))
+            (meant_expression.assign_element (telling program.now) op to at place right.now)) self.new result }
     {
         match self.value_of(program, index, depth) {
             Some(w) => self.assign_indexed(program, op, to, at, place, w, right, depth),
-            None => self.held_store(program, op, to, at, place, right),
+            None => self.held_store(program, index.at, op, to, at, place, right),
         }
     }
 
@@ -135,7 +135,7 @@ impl<'a> Store<'a> {
     ) -> Option<u64>
         ensures { Values program.now
             (with_some (element_in_place place w (view self.old)) IllFormed (view self.old)
-            (assign_to (meaning program.now) op to at right.now (view self.old))) self.new result }
+            (assign_to (telling program.now) op to at right.now (view self.old))) self.new result }
     {
         match op {
             None => match self.array_of(place) {
@@ -162,7 +162,7 @@ impl<'a> Store<'a> {
     ) -> Option<u64>
         ensures { Values program.now
             (with_some (element_in_place place w (view self.old)) IllFormed (view self.old)
-            (assign_to (meaning program.now) (Some op) to at right.now (view self.old))) self.new result }
+            (assign_to (telling program.now) (Some op) to at right.now (view self.old))) self.new result }
     {
         let depth = depth.saturating_sub(OPERATION);
         let object = self.element_of(place, w);
@@ -181,12 +181,12 @@ impl<'a> Store<'a> {
         depth: u32,
     ) -> Option<u64>
         ensures { Values program.now
-            (then (meaning program.now (Of right.now) (view self.old)) (assigned (InArray array i)))
+            (then (telling program.now (Of right.now) (view self.old)) (assigned (InArray array i)))
             self.new result }
     {
         match self.value_of(program, right, depth) {
             Some(w) => self.put(program, Object::InArray(array, i), w),
-            None => self.held_in_array(program, array, i),
+            None => self.held_in_array(program, right.at, array, i),
         }
     }
 
@@ -205,7 +205,7 @@ impl<'a> Store<'a> {
     ) -> Option<u64>
         ensures { Values program.now
             (with_some (scalar_in place) IllFormed (view self.old)
-            (assign_to (meaning program.now) op to at right.now (view self.old))) self.new result }
+            (assign_to (telling program.now) op to at right.now (view self.old))) self.new result }
     {
         let depth = depth.saturating_sub(OPERATION);
         self.put_value(program, op, to, at, right, scalar_of(place), depth)
@@ -226,7 +226,7 @@ impl<'a> Store<'a> {
     ) -> Option<u64>
         ensures { Values program.now
             (with_some (scalar_in place) IllFormed (view self.old)
-            (assign_to (meaning program.now) op to at right.now (view self.old))) self.new result }
+            (assign_to (telling program.now) op to at right.now (view self.old))) self.new result }
     {
         match op {
             None => match place {
@@ -248,12 +248,12 @@ impl<'a> Store<'a> {
         depth: u32,
     ) -> Option<u64>
         ensures { Values program.now
-            (then (meaning program.now (Of right.now) (view self.old)) (assigned (InScalar i)))
+            (then (telling program.now (Of right.now) (view self.old)) (assigned (InScalar i)))
             self.new result }
     {
         match self.value_of(program, right, depth) {
             Some(w) => self.put_scalar(program, i, w),
-            None => self.held_scalar(program, i),
+            None => self.held_scalar(program, right.at, i),
         }
     }
 
@@ -268,11 +268,11 @@ impl<'a> Store<'a> {
         depth: u32,
     ) -> Option<u64>
         ensures { Values program.now
-            (then (meaning program.now (Of right.now) (view self.old)) (assigned object)) self.new result }
+            (then (telling program.now (Of right.now) (view self.old)) (assigned object)) self.new result }
     {
         match self.value_of(program, right, depth) {
             Some(w) => self.put(program, object, w),
-            None => self.held_object(program, object),
+            None => self.held_object(program, right.at, object),
         }
     }
 
@@ -291,7 +291,7 @@ impl<'a> Store<'a> {
     ) -> Option<u64>
         ensures { Values program.now
             (with_some object IllFormed (view self.old)
-            (assign_to (meaning program.now) op to at right.now (view self.old))) self.new result }
+            (assign_to (telling program.now) op to at right.now (view self.old))) self.new result }
     {
         let depth = depth.saturating_sub(OPERATION);
         match object {
@@ -302,7 +302,7 @@ impl<'a> Store<'a> {
                     None => self.no_word(program, object),
                     Some(old) => match self.value_of(program, right, depth) {
                         Some(w) => { self.put_compound(program, op, to, at, object, old, w) }
-                        None => self.held_compound(program, op, to, at, object, old),
+                        None => self.held_compound(program, right.at, op, to, at, object, old),
                     },
                 },
             },

@@ -7,7 +7,7 @@ ghost use Rattle.c_meaning_spec.specs.inside.State.{then};
 ghost use Rattle.c_meaning_spec.specs.Task.{Of, row_element_of as row_element_in_place};
 ghost use Rattle.c_meaning_spec.specs.Expression.{assign_to};
 ghost use Rattle.c_meaning_spec.specs.Expression as meant_expression;
-ghost use Rattle.c_meaning_spec.specs.Eval.{meaning};
+ghost use Rattle.c_meaning_spec.specs.Telling.{telling};
 ghost use Rattle.c_meaning.specs.inside.View.{view};
 ghost use Rattle.c_meaning.specs.inside.Direct.{Values};
 
@@ -32,14 +32,14 @@ impl<'a> Store<'a> {
         depth: u32,
     ) -> Option<u64>
         ensures { Values program.now
-            (then (meaning program.now (Of row.now) (view self.old))
-            (meant_expression.assign_after_row (meaning program.now) op to at place index.now right.now))
+            (then (telling program.now (Of row.now) (view self.old))
+            (meant_expression.assign_after_row (telling program.now) op to at place index.now right.now))
             self.new result }
     {
         let depth = depth.saturating_sub(OPERATION);
         match self.value_of(program, row, depth) {
             Some(i) => self.assign_after_row(program, op, to, at, place, i, index, right, depth),
-            None => self.held_store_in_row(program, op, to, at, place, index, right),
+            None => self.held_store_in_row(program, row.at, op, to, at, place, index, right),
         }
     }
 
@@ -59,13 +59,13 @@ impl<'a> Store<'a> {
         depth: u32,
     ) -> Option<u64>
         ensures { Values program.now
-            (then (meaning program.now (Of index.now) (view self.old))
-            (meant_expression.assign_row (meaning program.now) op to at place row right.now))
+            (then (telling program.now (Of index.now) (view self.old))
+            (meant_expression.assign_row (telling program.now) op to at place row right.now))
             self.new result }
     {
         match self.value_of(program, index, depth) {
             Some(j) => self.assign_in_row(program, op, to, at, place, row, j, right, depth),
-            None => self.held_row_store(program, op, to, at, place, row, right),
+            None => self.held_row_store(program, index.at, op, to, at, place, row, right),
         }
     }
 
@@ -86,7 +86,7 @@ impl<'a> Store<'a> {
     ) -> Option<u64>
         ensures { Values program.now
             (with_some (row_element_in_place place row j (view self.old)) IllFormed (view self.old)
-            (assign_to (meaning program.now) op to at right.now (view self.old))) self.new result }
+            (assign_to (telling program.now) op to at right.now (view self.old))) self.new result }
     {
         match op {
             None => match self.array_of(place) {
@@ -117,7 +117,7 @@ impl<'a> Store<'a> {
     ) -> Option<u64>
         ensures { Values program.now
             (with_some (row_element_in_place place row j (view self.old)) IllFormed (view self.old)
-            (assign_to (meaning program.now) (Some op) to at right.now (view self.old))) self.new result }
+            (assign_to (telling program.now) (Some op) to at right.now (view self.old))) self.new result }
     {
         let depth = depth.saturating_sub(OPERATION);
         let object = self.row_element_of(place, row, j);

@@ -7,9 +7,9 @@ ghost use Rattle.c_meaning_spec.specs.inside.State.{then};
 ghost use Rattle.c_meaning_spec.specs.Task.{Of, name as name_of, element as element_in, after_row, row_element};
 ghost use Rattle.c_meaning_spec.specs.Task.{is_array as is_array_in, has_length};
 ghost use Rattle.c_meaning_spec.specs.Expression.{expression, node, opened, converting, unary};
-ghost use Rattle.c_meaning_spec.specs.Eval.{meaning};
+ghost use Rattle.c_meaning_spec.specs.Telling.{calling, telling};
 ghost use Rattle.c_meaning.specs.inside.View.{view};
-ghost use Rattle.c_meaning.specs.inside.Direct.{Values};
+ghost use Rattle.c_meaning.specs.inside.Direct.{Values, ValuesAt};
 
 use crate::direct::Stop;
 use crate::frame::Frame;
@@ -89,7 +89,7 @@ impl<'a> Store<'a> {
 
     /// An expression, which is left where it is too deep.
     #[cycle(parts)]
-    #[tactic(auto, using(crate::proofs::TaskMeanings::number_is, crate::proofs::TaskMeanings::scalar_is))]
+    #[tactic(auto, using(crate::proofs::TaskMeanings::scalar_placed))]
     #[inline(always)]
     pub fn value_of(
         &mut self,
@@ -97,8 +97,8 @@ impl<'a> Store<'a> {
         e: &'a TypedExpr,
         depth: u32,
     ) -> Option<u64>
-        ensures { Values program.now
-            (meaning program.now (Of e.now) (view self.old)) self.new result }
+        ensures { ValuesAt program.now e.now.at
+            (telling program.now (Of e.now) (view self.old)) self.new result }
     {
         match &e.node {
             TypedNode::Number(w) => self.number(program, *w),
@@ -110,15 +110,15 @@ impl<'a> Store<'a> {
     // An expression that is no leaf, which is left where it is too deep.
     #[cycle(parts)]
     #[inline(never)]
-    #[tactic(auto, using(crate::proofs::TaskMeanings::of_is))]
+    #[tactic(auto, using(crate::proofs::TaskMeanings::expression_placed))]
     fn deeper_value(
         &mut self,
         program: &'a TypedProgram,
         e: &'a TypedExpr,
         depth: u32,
     ) -> Option<u64>
-        ensures { Values program.now
-            (meaning program.now (Of e.now) (view self.old)) self.new result }
+        ensures { ValuesAt program.now e.now.at
+            (telling program.now (Of e.now) (view self.old)) self.new result }
     {
         if depth < EXPRESSION {
             self.leave_expr(program, e)
@@ -127,7 +127,7 @@ impl<'a> Store<'a> {
         }
     }
 
-    // A conversion that typing adds costs nothing.
+    // A conversion that typing adds costs nothing; the place of the whole is told of what is in it.
     #[cycle(parts)]
     #[inline(always)]
     fn whole_value(
@@ -137,11 +137,13 @@ impl<'a> Store<'a> {
         depth: u32,
     ) -> Option<u64>
         ensures { Values program.now
-            (expression (meaning program.now) program.now (node_of e.now) (view self.old)) self.new result }
+            (expression (calling e.now.at (telling program.now)) program.now (node_of e.now) (view self.old))
+            self.new result }
     {
+        let token = e.at;
         match &e.node {
-            TypedNode::Convert { to, e } => self.converted(program, *to, e.get(), depth),
-            _ => self.spent(program, e, depth),
+            TypedNode::Convert { to, e } => self.converted(program, token, *to, e.get(), depth),
+            _ => self.spent(program, token, e, depth),
         }
     }
 
@@ -151,15 +153,16 @@ impl<'a> Store<'a> {
     fn converted(
         &mut self,
         program: &'a TypedProgram,
+        token: u32,
         to: Kind,
         e: &'a TypedExpr,
         depth: u32,
     ) -> Option<u64>
         ensures { Values program.now
-            (then (node (meaning program.now) program.now (node_of e.now) (view self.old))
+            (then (node (calling token (telling program.now)) program.now (node_of e.now) (view self.old))
             (converting to)) self.new result }
     {
-        match self.spent(program, e, depth) {
+        match self.spent(program, token, e, depth) {
             Some(w) => Some(convert(to, w)),
             None => self.held_conversion(program, to),
         }
@@ -168,9 +171,15 @@ impl<'a> Store<'a> {
     // A node spends its step first.
     #[cycle(parts)]
     #[inline(always)]
-    fn spent(&mut self, program: &'a TypedProgram, e: &'a TypedExpr, depth: u32) -> Option<u64>
+    fn spent(
+        &mut self,
+        program: &'a TypedProgram,
+        token: u32,
+        e: &'a TypedExpr,
+        depth: u32,
+    ) -> Option<u64>
         ensures { Values program.now
-            (node (meaning program.now) program.now (node_of e.now) (view self.old)) self.new result }
+            (node (calling token (telling program.now)) program.now (node_of e.now) (view self.old)) self.new result }
     {
         if self.stock == 0 {
             {
@@ -179,16 +188,23 @@ impl<'a> Store<'a> {
             }
         } else {
             self.stock -= 1;
-            self.opened(program, e, depth)
+            self.opened(program, token, e, depth)
         }
     }
 
     // A node after its step.
     #[cycle(parts)]
+    #[tactic(auto, using(crate::proofs::TaskMeanings::binary_is, crate::proofs::TaskMeanings::assign_is, crate::proofs::TaskMeanings::bump_is))]
     #[inline(always)]
-    fn opened(&mut self, program: &'a TypedProgram, e: &'a TypedExpr, depth: u32) -> Option<u64>
+    fn opened(
+        &mut self,
+        program: &'a TypedProgram,
+        token: u32,
+        e: &'a TypedExpr,
+        depth: u32,
+    ) -> Option<u64>
         ensures { Values program.now
-            (opened (meaning program.now) program.now (node_of e.now) (view self.old)) self.new result }
+            (opened (calling token (telling program.now)) program.now (node_of e.now) (view self.old)) self.new result }
     {
         match &e.node {
             TypedNode::Number(w) => Some(*w),
@@ -198,7 +214,7 @@ impl<'a> Store<'a> {
                 Some(row) => self.row_value(program, *array, row.get(), index.get(), depth),
             },
             TypedNode::Call { function, args } => {
-                self.first_argument(program, *function, args.as_slice(), depth)
+                self.first_argument(program, token, *function, args.as_slice(), depth)
             }
             TypedNode::Unary { op, e } => self.unary_value(program, *op, e.get(), depth),
             TypedNode::Cast { to, e } => self.cast_value(program, *to, e.get(), depth),
@@ -233,14 +249,14 @@ impl<'a> Store<'a> {
         depth: u32,
     ) -> Option<u64>
         ensures { Values program.now
-            (then (meaning program.now (Of index.now) (view self.old)) (element_in array)) self.new result }
+            (then (telling program.now (Of index.now) (view self.old)) (element_in array)) self.new result }
     {
         match self.value_of(program, index, depth) {
             Some(w) => {
                 let object = self.element_of(array, w);
                 self.loaded(program, object)
             }
-            None => self.held_element(program, array),
+            None => self.held_element(program, index.at, array),
         }
     }
 
@@ -256,13 +272,13 @@ impl<'a> Store<'a> {
         depth: u32,
     ) -> Option<u64>
         ensures { Values program.now
-            (then (meaning program.now (Of row.now) (view self.old))
-            (after_row (meaning program.now) array index.now)) self.new result }
+            (then (telling program.now (Of row.now) (view self.old))
+            (after_row (telling program.now) array index.now)) self.new result }
     {
         let depth = depth.saturating_sub(OPERATION);
         match self.value_of(program, row, depth) {
             Some(i) => self.second_index(program, array, i, index, depth),
-            None => self.held_row(program, array, index),
+            None => self.held_row(program, row.at, array, index),
         }
     }
 
@@ -278,14 +294,14 @@ impl<'a> Store<'a> {
         depth: u32,
     ) -> Option<u64>
         ensures { Values program.now
-            (then (meaning program.now (Of index.now) (view self.old)) (row_element array row)) self.new result }
+            (then (telling program.now (Of index.now) (view self.old)) (row_element array row)) self.new result }
     {
         match self.value_of(program, index, depth) {
             Some(j) => {
                 let object = self.row_element_of(array, row, j);
                 self.loaded(program, object)
             }
-            None => self.held_row_element(program, array, row),
+            None => self.held_row_element(program, index.at, array, row),
         }
     }
 
@@ -300,12 +316,12 @@ impl<'a> Store<'a> {
         depth: u32,
     ) -> Option<u64>
         ensures { Values program.now
-            (then (meaning program.now (Of e.now) (view self.old)) (unary op e.now.kind)) self.new result }
+            (then (telling program.now (Of e.now) (view self.old)) (unary op e.now.kind)) self.new result }
     {
         let depth = depth.saturating_sub(OPERATION);
         match self.value_of(program, e, depth) {
             Some(w) => self.unary_given(program, op, e.kind, w),
-            None => self.held(program, Frame::Unary { op, kind: e.kind }),
+            None => self.held(program, e.at, Frame::Unary { op, kind: e.kind }),
         }
     }
 
@@ -320,11 +336,11 @@ impl<'a> Store<'a> {
         depth: u32,
     ) -> Option<u64>
         ensures { Values program.now
-            (then (meaning program.now (Of e.now) (view self.old)) (converting to)) self.new result }
+            (then (telling program.now (Of e.now) (view self.old)) (converting to)) self.new result }
     {
         match self.value_of(program, e, depth) {
             Some(w) => Some(convert(to, w)),
-            None => self.held_conversion(program, to),
+            None => self.held_cast(program, e.at, to),
         }
     }
 }

@@ -21,7 +21,8 @@ weight (Of e) n = 2 * n + 1
 weight (Run st) n = 2 * n + 1
 weight (Turn test post body) n = 2 * n + 2
 
-weight-le : (t : Task) (n : ℕ) → weight t n ≤ 2 * n + 2
+-- at most so much
+pub weight-le : (t : Task) (n : ℕ) → weight t n ≤ 2 * n + 2
 weight-le (Of e) n = omega arith
 weight-le (Run st) n = omega arith
 weight-le (Turn test post body) n = omega arith
@@ -40,10 +41,12 @@ weaker d m n (Over (Faults c) s) r' h g = record { grows = g.grows }
 weaker d m n (Over TooDeep s) r' h g = record { grows = g.grows }
 weaker d m n (Over (Exits w) s) r' h g = record { grows = g.grows }
 
-abbrev Below : ℕ → ℕ → Parts → Parts → Type 0
+-- with fewer steps than n the parts are the same with d more
+abbrev pub Below : ℕ → ℕ → Parts → Parts → Type 0
 Below d n rec rec' = (t : Task) (s : State) → s.stock < n → Grew d n (rec t s) (rec' t (more d s))
 
-abbrev NoneTaken : Parts → Type 0
+-- no part takes anything back
+abbrev pub NoneTaken : Parts → Type 0
 NoneTaken rec = (t : Task) (s : State) → Puts s.output s.stock (rec t s)
 
 -- one task, from what is known of its parts
@@ -83,10 +86,12 @@ grown P d (suc k) (suc k') (Turn test post body) s h h' =
     (λ e. grown P d k k' (Of e) s (omega arith) (omega arith))
     (λ st. grown P d k k' (Run st) s (omega arith) (omega arith))
 
-more-zero : (s : State) → more 0 s ≡ s
+-- no more steps
+pub more-zero : (s : State) → more 0 s ≡ s
 more-zero s = ap (λ (n : ℕ). record s { stock = n }) (add-zero s.stock)
 
-same_result : (n : ℕ) (r r' : Result) → Grew 0 n r r' → r' ≡ r
+-- what grew by no steps is the same
+pub same_result : (n : ℕ) (r r' : Result) → Grew 0 n r r' → r' ≡ r
 same_result n (Go v s) r' g = g.grows.0 ∙ ap (Go v) (more-zero s)
 same_result n (Over NoStep s) r' g = g.grows.0 refl ∙ ap (Over NoStep) (more-zero s)
 same_result n (Over (Faults c) s) r' g = g.grows ∙ ap (Over (Faults c)) (more-zero s)

@@ -1,4 +1,5 @@
 mod StandardFacts
+mod PlaceFacts
 pub mod Puts
 pub mod ExpressionsPut
 pub mod StatementsPut
@@ -9,3 +10,7 @@ pub mod Equations
 pub mod Induction
 pub mod Stocks
 pub mod Told
+pub mod Alike
+pub mod ExpressionsAlike
+pub mod StatementsAlike
+pub mod Tellings

@@ -18,12 +18,12 @@ use Rattle.c_tree.specs.declared.TypedForInit.TheOpen.{Break, Return, Nothing}
 use Rattle.c_tree.specs.declared.TypedFunc.{TypedFunc}
 use Rattle.c_tree.specs.declared.TypedGlobal.{TypedGlobal}
 use Rattle.c_tree.specs.declared.TypedProgram.{TypedProgram}
-use Rattle.c_meaning_spec.specs.declared.signal.Ending.TheVariants.{More, Undefined, Deep}
+use Rattle.c_meaning_spec.specs.declared.signal.Ending.TheVariants.{More, Undefined}
 use Rattle.c_meaning_spec.specs.declared.signal.Halt.TheVariants.{NoStep, TooDeep, Faults}
 use Rattle.c_meaning_spec.specs.declared.fault.Fault.TheVariants.{IllFormed}
 use Rattle.c_constant.specs.Kinds.{converted}
 use Rattle.c_constant.specs.Operation.{operate, operate_one}
-use Rattle.c_meaning_spec.specs.State.{State, Go, Over}
+use Rattle.c_meaning_spec.specs.State.{State, Go, Over, nothing_told}
 use Rattle.c_meaning_spec.specs.declared.signal.Signal.TheVariants as signal
 use Rattle.c_meaning_spec.specs.Task.{Run}
 use Rattle.c_meaning_spec.specs.Call.{frame, called}
@@ -219,6 +219,7 @@ with_local n w = record {
   rows = [];
   base = 0;
   room = 0;
+  told = nothing_told;
 }
 
 -- without its argument
@@ -249,6 +250,7 @@ at_room room = record {
   rows = [];
   base = 0;
   room = room;
+  told = nothing_told;
 }
 
 too_deep : called (λ t s. Over NoStep s) (program [] []) (Func 0) [] (at_room 1048425)
@@ -265,6 +267,7 @@ just_fits : called (λ t s. Over NoStep s) (program [] []) (Func 0) [] (at_room 
       rows = [];
       base = 0;
       room = 1048576;
+      told = nothing_told;
     })
 just_fits = refl
 

@@ -14,7 +14,7 @@ use Rattle.c_meaning_spec.specs.declared.signal.Ending.TheVariants.{More, Undefi
 use Rattle.c_meaning_spec.specs.declared.signal.Halt.TheVariants.{NoStep, TooDeep, Faults, Exits}
 use Rattle.c_meaning_spec.specs.declared.fault.Fault.{Fault}
 use Rattle.c_meaning_spec.specs.declared.fault.Fault.TheVariants.{NoValue}
-use Rattle.c_meaning_spec.specs.State.{State, Result, Go, Over}
+use Rattle.c_meaning_spec.specs.State.{State, Result, Go, Over, nothing_told}
 use Rattle.c_constant.specs.Kinds.{number, converted}
 use Rattle.c_meaning_spec.specs.Task.{Task, Of, Run, Turn, Parts}
 use Rattle.c_meaning_spec.specs.Call.{called}
@@ -68,6 +68,7 @@ start P input n = record {
   rows = map global_row P.globals;
   base = 0;
   room = 0;
+  told = nothing_told;
 }
 
 -- how an evaluation ends, with the output so far

@@ -6,5 +6,6 @@ pub mod Call
 pub mod Expression
 pub mod Statement
 pub mod Eval
+pub mod Telling
 pub mod Laws
 pub mod inside

@@ -9,6 +9,17 @@ use Rattle.c_meaning_spec.specs.declared.fault.Fault.TheVariants.{Outside, Outsi
 use Rattle.c_meaning_spec.specs.declared.signal.Object.{Object}
 use Rattle.c_meaning_spec.specs.declared.signal.Object.TheVariants.{InScalar, InArray}
 
+-- What is told of where an evaluation stopped, by offsets in the text of the tokens that name its expressions.
+pub record Told : Type 0 where
+  -- the innermost expression that was not evaluated to its end, none where it stopped in none
+  pub at : Option ℕ
+  -- the calls that were open, the innermost first; that of main is none of them
+  pub calls : List ℕ
+
+-- what is told while an evaluation goes on
+abbrev pub nothing_told : Told
+nothing_told = record { at = None; calls = [] }
+
 -- A value is held as its word: the number modulo 2^64. What is not set is none. Arrays are
 -- numbered: the globals come first, a global scalar being an array of length 1, and then the arrays
 -- of each active function. The scalar of an array parameter holds the number of the array that it
@@ -29,6 +40,8 @@ pub record State : Type 0 where
   pub base : ℕ
   -- the bytes of the frames of the active functions
   pub room : ℕ
+  -- where the evaluation stopped: nothing, as long as it goes on
+  pub told : Told
 
 -- a part of the program goes on, or the evaluation stops before the end of main
 pub data Result : Type 0 where

@@ -1,5 +1,7 @@
 ghost use Rattle.c_meaning_spec.specs.inside.Laws.{StaysWithMoreSteps, StepsAreLeast, OutputGoesOn, MeansByParts};
 ghost use Rattle.c_meaning_spec.specs.inside.Laws.{ExitsAsMainReturns, UndefinedIsTold, RuleIsBroken};
+ghost use Rattle.c_meaning_spec.specs.inside.TellingLaws.{TellsByParts, TellsAlike, GoingOnTellsNothing};
+ghost use Rattle.c_meaning_spec.specs.inside.TellingLaws.{StoppingIsPlaced, OutcomeIsTold, FaultIsTold};
 
 /// A result other than More stays with more steps.
 pub fn result_stays_with_more_steps()
@@ -31,4 +33,24 @@ pub fn exits_as_main_returns()
 pub fn undefined_has_its_reason()
     ensures told { UndefinedIsTold }
     ensures rule { RuleIsBroken }
+{}
+
+/// What a task means with its places is what it does with its parts with theirs: the one equation that a proof over
+/// evaluations with places needs.
+pub fn task_tells_by_its_parts()
+    ensures { TellsByParts }
+{}
+
+/// With its places a task comes to the same, but for what is told of where it stopped; going on tells nothing, and an
+/// expression that stops tells a place.
+pub fn places_are_told_where_it_stops()
+    ensures alike { TellsAlike }
+    ensures on { GoingOnTellsNothing }
+    ensures placed { StoppingIsPlaced }
+{}
+
+/// The call of main with its places comes to the outcome of the evaluation, and to its reason.
+pub fn run_with_places_is_the_evaluation()
+    ensures outcome { OutcomeIsTold }
+    ensures fault { FaultIsTold }
 {}

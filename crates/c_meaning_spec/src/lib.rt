@@ -12,7 +12,8 @@ mod signal;
 
 pub use fault::Fault;
 pub use laws::{
-    exits_as_main_returns, output_goes_on, result_stays_with_more_steps, steps_of_done_are_least,
-    task_means_by_its_parts, undefined_has_its_reason,
+    exits_as_main_returns, output_goes_on, places_are_told_where_it_stops,
+    result_stays_with_more_steps, run_with_places_is_the_evaluation, steps_of_done_are_least,
+    task_means_by_its_parts, task_tells_by_its_parts, undefined_has_its_reason,
 };
 pub use signal::{Ending, Halt, Object, Signal};

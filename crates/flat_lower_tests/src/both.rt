@@ -55,9 +55,9 @@ impl Both {
         steps: u64,
     ) -> Result<Evaluated, Cut> {
         match evaluate(alloc, &self.typed, input, steps).expect(rt, "memory") {
-            Outcome::More => Err(Cut::More),
+            Outcome::More { .. } => Err(Cut::More),
             Outcome::Undefined { .. } => Err(Cut::Undefined),
-            Outcome::Deep => Err(Cut::Deep),
+            Outcome::Deep { .. } => Err(Cut::Deep),
             Outcome::Done {
                 output,
                 result,

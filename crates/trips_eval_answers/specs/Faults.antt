@@ -105,7 +105,3 @@ sentence (fault.OutsideRows n q) =
 sentence fault.NeverSet = codes "a value is taken that was never set (C17 6.3.2.1p2)"
 sentence fault.NoValue = codes "a value is taken of a call that returned none (C17 6.9.1p12)"
 sentence fault.IllFormed = codes "a tree that no typing makes"
-
--- the line
-abbrev pub undefined_line : Fault → List ℕ
-undefined_line c = codes "undefined: " ++ sentence c

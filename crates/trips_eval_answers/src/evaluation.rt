@@ -17,27 +17,29 @@ fn status_for(outcome: &Outcome) -> Status
     ensures { result ≡ eval_status outcome.now }
 {
     match outcome {
-        Outcome::More => Status::Budget,
+        Outcome::More { .. } => Status::Budget,
         Outcome::Undefined { .. } => Status::Undefined,
-        Outcome::Deep => Status::StackFull,
+        Outcome::Deep { .. } => Status::StackFull,
         Outcome::Done { result, .. } => end_status(result.cast_unsigned()),
     }
 }
 
-// Evaluates the program on the input.
+// Evaluates the text's program on the input.
 fn evaluated(
     alloc: Global,
+    text: &[u8],
     program: &TypedProgram,
     input: &[u8],
     steps: u32,
 ) -> Result<Answer, AllocError>
+    requires short { length text.now < 4_294_967_295 }
     ensures { IfOk result (λ answer.
-        IsEvaluation program.now input.now steps answer.status answer.report.items) }
+        IsEvaluation text.now program.now input.now steps answer.status answer.report.items) }
 {
     let Ok(outcome) = evaluate(alloc, program, input, steps as u64) else {
         return Err(AllocError);
     };
-    let report = eval_report(alloc, &outcome)?;
+    let report = eval_report(alloc, text, &outcome)?;
     Ok(Answer {
         status: status_for(&outcome),
         report,
@@ -56,7 +58,7 @@ pub fn text_evaluated(
         IsTextEvaluated steps text.now input.now answer.status answer.report.items) }
 {
     match front(alloc, text) {
-        Ok(program) => evaluated(alloc, &program, input, steps),
+        Ok(program) => evaluated(alloc, text, &program, input, steps),
         Err(refusal) => stage_refused(alloc, text, refusal),
     }
 }

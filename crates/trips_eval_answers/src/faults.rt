@@ -205,8 +205,8 @@ fn rows_sentence(alloc: Global, size: u64, row: u64) -> Result<String, AllocErro
     )
 }
 
-// The sentence.
-fn sentence(alloc: Global, fault: Fault) -> Result<String, AllocError>
+/// The sentence that tells why. Want of memory is the only error.
+pub fn sentence(alloc: Global, fault: Fault) -> Result<String, AllocError>
     ensures { IfOk result (λ text. string_bytes text ≡ faults.sentence fault) }
 {
     match fault {
@@ -223,12 +223,4 @@ fn sentence(alloc: Global, fault: Fault) -> Result<String, AllocError>
         ),
         Fault::IllFormed => String::from_str(alloc, "a tree that no typing makes"),
     }
-}
-
-/// The line that tells why an evaluation is undefined. Want of memory is the only error.
-pub fn undefined_line(alloc: Global, fault: Fault) -> Result<String, AllocError>
-    ensures { IfOk result (λ text. string_bytes text ≡ faults.undefined_line fault) }
-{
-    let text = sentence(alloc, fault)?;
-    format!(in alloc; "undefined: {text}")
 }

@@ -8,7 +8,9 @@ mod refusals;
 #[cfg(test)]
 mod report_tests;
 mod reports;
+mod stops;
 
 pub use evaluation::text_evaluated;
+pub use faults::sentence;
 pub use refusals::stage_refused;
 pub use reports::eval_report;

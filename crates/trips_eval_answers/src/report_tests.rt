@@ -17,13 +17,16 @@ use std::process::Abort;
 use std::test::Fail;
 use trips_requests::Status;
 
+// A text of three lines.
+const TEXT: &[u8] = b"int f;\n\tx\n";
+
 fn assert_evaluation(
     rt: &impl Abort,
     alloc: Global,
     outcome: &Outcome,
     report: &str,
 ) -> Result<(), AllocError> {
-    let written = eval_report(alloc, outcome)?;
+    let written = eval_report(alloc, TEXT, outcome)?;
     assert_eq!(rt; written.as_slice(), report.as_bytes(), "{report}");
     Ok(())
 }
@@ -31,8 +34,18 @@ fn assert_evaluation(
 #[test]
 fn tells_an_evaluation(rt: HostRuntime) -> Result<(), Fail> {
     let alloc = rt.alloc();
-    assert_evaluation(&rt, alloc, &Outcome::More, "more\n")?;
-    assert_evaluation(&rt, alloc, &Outcome::Deep, "deep\n")?;
+    let more = Outcome::More {
+        output: Items::new(alloc),
+        at: Some(4),
+        calls: Items::new(alloc),
+    };
+    assert_evaluation(&rt, alloc, &more, "more\n")?;
+    let deep = Outcome::Deep {
+        output: Items::new(alloc),
+        at: Some(4),
+        calls: Items::new(alloc),
+    };
+    assert_evaluation(&rt, alloc, &deep, "deep\n")?;
     let done = Outcome::Done {
         output: Items::from_vec(Vec::from_slice(alloc, b"3\n")?),
         result: -3,
@@ -147,10 +160,57 @@ fn tells_why_an_evaluation_is_undefined(rt: HostRuntime) -> Result<(), Fail> {
         let undefined = Outcome::Undefined {
             output: Items::from_vec(Vec::from_slice(alloc, b"ab")?),
             why: *why,
+            at: None,
+            calls: Items::new(alloc),
         };
         let report = format!(in alloc; "output 2\nab\nundefined: {sentence}\n")?;
         assert_evaluation(&rt, alloc, &undefined, report.as_str())?;
     }
+    Ok(())
+}
+
+// Places by their offsets in the text, and the words of them.
+const PLACES: &[(Option<u32>, &str)] = &[
+    (None, "undefined: "),
+    (Some(0), "undefined at 1:1: "),
+    (Some(6), "undefined at 1:7: "),
+    (Some(8), "undefined at 2:2: "),
+    (Some(10), "undefined at 3:1: "),
+    (Some(99), "undefined at 3:1: "),
+];
+
+#[test]
+fn tells_where_an_evaluation_is_undefined(rt: HostRuntime) -> Result<(), Fail> {
+    let alloc = rt.alloc();
+    for (at, words) in PLACES {
+        let undefined = Outcome::Undefined {
+            output: Items::new(alloc),
+            why: Fault::NeverSet,
+            at: *at,
+            calls: Items::new(alloc),
+        };
+        let report = format!(in alloc;
+            "output 0\n\n{words}a value is taken that was never set (C17 6.3.2.1p2)\n"
+        )?;
+        assert_evaluation(&rt, alloc, &undefined, report.as_str())?;
+    }
+    Ok(())
+}
+
+#[test]
+fn tells_which_calls_were_open(rt: HostRuntime) -> Result<(), Fail> {
+    let alloc = rt.alloc();
+    let undefined = Outcome::Undefined {
+        output: Items::new(alloc),
+        why: Fault::NeverSet,
+        at: Some(8),
+        calls: Items::from_vec(Vec::from_slice(alloc, &[4, 0])?),
+    };
+    let never = "a value is taken that was never set (C17 6.3.2.1p2)";
+    let report = format!(in alloc;
+        "output 0\n\nundefined at 2:2: {never}, called at 1:5, called at 1:1\n"
+    )?;
+    assert_evaluation(&rt, alloc, &undefined, report.as_str())?;
     Ok(())
 }
 

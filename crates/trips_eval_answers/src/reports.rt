@@ -1,9 +1,9 @@
 //! The report of an evaluation.
 
-ghost use Rattle.std.specs.Prelude.{◌≡◌, IfOk, string_bytes};
+ghost use Rattle.std.specs.Prelude.{◌≡◌, ◌<◌, IfOk, length, string_bytes};
 ghost use Rattle.trips_eval_answers.specs.Evaluation.{done_lines, eval_report};
 
-use crate::faults::undefined_line;
+use crate::stops::undefined_line;
 use c_meaning::Outcome;
 use std::alloc::{AllocError, Global};
 use trips_requests::{end_text, output_text};
@@ -17,19 +17,25 @@ fn done_text(alloc: Global, value: i64, steps: u64) -> Result<String, AllocError
     format!(in alloc; "{line}\nsteps {steps}")
 }
 
-/// The report of an evaluation: its output, result and steps, its output and why it is undefined, or the word that says
-/// why it has none.
+/// The report of an evaluation of a text: its output, result and steps, its output and where and why it is
+/// undefined, or the word that says why it has none.
 /// Want of memory is the only error.
-pub fn eval_report(alloc: Global, outcome: &Outcome) -> Result<Vec<u8>, AllocError>
-    ensures ok { IfOk result (λ report. report.items ≡ eval_report outcome.now) }
+pub fn eval_report(alloc: Global, text: &[u8], outcome: &Outcome) -> Result<Vec<u8>, AllocError>
+    requires short { length text.now < 4_294_967_295 }
+    ensures ok { IfOk result (λ report. report.items ≡ eval_report text.now outcome.now) }
 {
     match outcome {
-        Outcome::More => Vec::from_slice(alloc, b"more\n"),
-        Outcome::Undefined { output, why } => {
-            let line = undefined_line(alloc, *why)?;
+        Outcome::More { .. } => Vec::from_slice(alloc, b"more\n"),
+        Outcome::Undefined {
+            output,
+            why,
+            at,
+            calls,
+        } => {
+            let line = undefined_line(alloc, text, *why, *at, calls.as_slice())?;
             output_text(alloc, output.as_slice(), line.as_str())
         }
-        Outcome::Deep => Vec::from_slice(alloc, b"deep\n"),
+        Outcome::Deep { .. } => Vec::from_slice(alloc, b"deep\n"),
         Outcome::Done {
             output,
             result,

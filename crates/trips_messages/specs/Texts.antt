@@ -50,7 +50,7 @@ sentence says.Boolean =
 sentence says.Jump =
     codes "is left out: use loops, break, continue and return"
 sentence says.Size =
-    codes "is left out but for types, objects, constants and operations on them: write the number of bytes"
+    codes "does not stand here: sizeof takes a type, or a value of names declared before, so write the bytes"
 sentence says.Pointer =
     codes "does not stand here: pointers are left out but for parameters, so use an array and an index"
 sentence says.Address =

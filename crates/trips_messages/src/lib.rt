@@ -24,5 +24,8 @@ mod wanted;
 mod words;
 
 pub use fault::Fault;
+pub use marked::put_marked;
 pub use mending::mended;
+pub use places::{column, first_line, last_line, parted};
 pub use telling::{accepted, message, message_without_place};
+pub use words::word_length;

@@ -73,3 +73,11 @@ pub fn first_line(bytes: &[u8]) -> &[u8]
     let (line, _) = bytes.split_at(line_length(bytes));
     line
 }
+
+/// The column of a byte of the text, counted from 1.
+pub fn column(text: &[u8], offset: u32) -> u64
+    ensures { result ≡ places.column text.now offset }
+{
+    let (before, _) = parted(text, offset as usize);
+    last_line(before).len() as u64 + 1
+}

@@ -120,7 +120,7 @@ pub fn sentence(saying: Saying) -> &'static str
         Saying::Boolean => "does not stand here: write it without another word of a type",
         Saying::Jump => "is left out: use loops, break, continue and return",
         Saying::Size =>
-            "is left out but for types, objects, constants and operations on them: write the number of bytes",
+            "does not stand here: sizeof takes a type, or a value of names declared before, so write the bytes",
         Saying::Pointer =>
             "does not stand here: pointers are left out but for parameters, so use an array and an index",
         Saying::Address =>

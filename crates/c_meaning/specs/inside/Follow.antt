@@ -18,7 +18,7 @@ pub data Follow : Type 0 where
   FElement : (p : Place) → Follow
   FAfterRow : (p : Place) (index : TypedExpr) → Follow
   FRowElement : (p : Place) (i : ℕ) → Follow
-  FArgument : (f : Callee) (rest : List TypedExpr) (done : List ℕ) → Follow
+  FArgument : (token : ℕ) (f : Callee) (rest : List TypedExpr) (done : List ℕ) → Follow
   FLeft : (op : BinaryOp) (k : Option Kind) (right : TypedExpr) → Follow
   FRight : (op : BinaryOp) (k : Option Kind) (a : ℕ) → Follow
   FAnd : (right : TypedExpr) → Follow
@@ -50,3 +50,10 @@ pub data Follow : Type 0 where
   FSwitch : (sections : List TypedSection) → Follow
   FSections : (rest : List TypedStmt) → Follow
   FReturning : Follow
+
+-- what waits behind a part: what follows it, the place of the expression that it is, or that of the call whose body it
+-- is
+pub data Waits : Type 0 where
+  WFollow : (f : Follow) → Waits
+  WPlace : (token : ℕ) → Waits
+  WCall : (token : ℕ) → Waits

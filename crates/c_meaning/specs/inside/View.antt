@@ -14,6 +14,7 @@ use Rattle.c_meaning.specs.inside.Follow.{FInitialised, FSequence, FIf, FThenTur
 use Rattle.c_meaning.specs.inside.Follow.{FAfterRow, FRowElement, FAssignAfterRow, FAssignRow}
 use Rattle.c_meaning.specs.inside.Follow.{FBumpAfterRow, FBumpRow, FSwitch, FSections}
 use Rattle.c_meaning.specs.inside.Follow.{FReturning}
+use Rattle.c_meaning.specs.inside.Follow.{Waits, WFollow, WPlace, WCall}
 use Rattle.c_meaning.specs.inside.Ahead.{Next, ToDo, Given, Ended}
 use Rattle.c_meaning.specs.declared.store.Store.{Store}
 use Rattle.c_meaning.specs.declared.frame.Task.{Task}
@@ -24,6 +25,8 @@ use Rattle.c_meaning.specs.declared.frame.Stage.{Stage}
 use Rattle.c_meaning.specs.declared.frame.Stage.TheVariants as stage
 use Rattle.c_meaning.specs.declared.frame.Frame.{Frame}
 use Rattle.c_meaning.specs.declared.frame.Frame.TheVariants as frame
+use Rattle.c_meaning.specs.declared.frame.Waiting.{Waiting}
+use Rattle.c_meaning.specs.declared.frame.Waiting.TheVariants as waiting
 use Rattle.c_meaning.specs.declared.frame.Move.{Move}
 use Rattle.c_meaning.specs.declared.frame.Move.TheVariants as move
 
@@ -38,6 +41,7 @@ view s = record {
   rows = s.rows.items;
   base = s.base;
   room = s.room;
+  told = record { at = s.told_at; calls = s.told_calls.items };
 }
 
 -- what stands behind a reference, if there is one
@@ -76,7 +80,7 @@ follow (frame.Converting to) = FConverting to
 follow (frame.Unary op k) = FUnary op k
 follow (frame.Element p) = FElement p
 follow (frame.RowElement p i) = FRowElement p i
-follow (frame.Argument f rest done) = FArgument f rest.now done
+follow (frame.Argument token f rest done) = FArgument token f rest.now done
 follow (frame.Operand o right) = follow_operand o right.now
 follow (frame.Operated op k a) = FRight op k a
 follow frame.Truth = FTruth
@@ -100,9 +104,15 @@ follow (frame.Switch xs) = FSwitch xs.now
 follow (frame.Sections rest behind) = FSections (rest.now ++ bodies behind.now)
 follow frame.Returning = FReturning
 
--- the frames, the topmost first
-unfoldable pub frames : List Frame → List Follow
-frames fs = reverse (map follow fs)
+-- what waits, as that of the definition
+abbrev pub waits : Waiting → Waits
+waits (waiting.Follows f) = WFollow (follow f)
+waits (waiting.Place token) = WPlace token
+waits (waiting.Call token) = WCall token
+
+-- what waits, the topmost first
+unfoldable pub frames : List Waiting → List Waits
+frames xs = reverse (map waits xs)
 
 -- a move, as what is to be done next
 abbrev pub next : Move → Next

@@ -2,7 +2,7 @@ use Rattle.std.proofs.Common.{◌≡◌, ◌+◌, ◌*◌, ◌++◌, length, map
 use Rattle.c_meaning_spec.specs.Task.{Turn}
 use Rattle.c_meaning_spec.specs.Call.{arguments}
 use Rattle.c_meaning_spec.specs.Statement.{sequence, locals, run_from, bodies}
-use Rattle.c_meaning_spec.specs.Eval.{meaning}
+use Rattle.c_meaning_spec.specs.Telling.{calling, telling}
 use Rattle.c_meaning.specs.inside.View.{behind, view}
 use Rattle.c_meaning.specs.inside.Given.{words}
 use Rattle.c_meaning.proofs.store.Store.+parts.Given as goal
@@ -197,8 +197,8 @@ decreases-run_if l = 32 * l.depth + 21
 abbrev pub invariant-call_value-loop-e : goal.invariant-call_value-loop-e
 invariant-call_value-loop-e l =
     (map Some (words l.list) ≡ l.list)
-    × (arguments (meaning l.program) l.program l.callee l.rest (words l.list) (view l.self)
-    ≡ arguments (meaning l.program) l.program l.callee l.fn.rest (words l.fn.list) (view l.fn.self))
+    × (arguments (calling l.token (telling l.program)) l.program l.callee l.rest (words l.list) (view l.self)
+    ≡ arguments (calling l.token (telling l.program)) l.program l.callee l.fn.rest (words l.fn.list) (view l.fn.self))
 
 abbrev pub decreases-call_value-loop-e : goal.decreases-call_value-loop-e
 decreases-call_value-loop-e l = length l.rest
@@ -206,29 +206,29 @@ decreases-call_value-loop-e l = length l.rest
 -- what is left is what was to be done
 abbrev pub invariant-run_all-loop-st : goal.invariant-run_all-loop-st
 invariant-run_all-loop-st l =
-    sequence (meaning l.program) l.rest (view l.self)
-    ≡ sequence (meaning l.program) l.fn.all (view l.fn.self)
+    sequence (telling l.program) l.rest (view l.self)
+    ≡ sequence (telling l.program) l.fn.all (view l.fn.self)
 
 abbrev pub decreases-run_all-loop-st : goal.decreases-run_all-loop-st
 decreases-run_all-loop-st l = length l.rest
 
 abbrev pub invariant-run_locals-loop-st : goal.invariant-run_locals-loop-st
 invariant-run_locals-loop-st l =
-    locals (meaning l.program) l.rest (behind l.turn.test) (behind l.turn.post) l.turn.body.now (view l.self)
-    ≡ locals (meaning l.program) l.fn.all (behind l.turn.test) (behind l.turn.post) l.turn.body.now (view l.fn.self)
+    locals (telling l.program) l.rest (behind l.turn.test) (behind l.turn.post) l.turn.body.now (view l.self)
+    ≡ locals (telling l.program) l.fn.all (behind l.turn.test) (behind l.turn.post) l.turn.body.now (view l.fn.self)
 
 abbrev pub decreases-run_locals-loop-st : goal.decreases-run_locals-loop-st
 decreases-run_locals-loop-st l = length l.rest
 
 abbrev pub invariant-run_loop-loop-round : goal.invariant-run_loop-loop-round
 invariant-run_loop-loop-round l =
-    meaning l.program (Turn (behind l.turn.test) (behind l.turn.post) l.turn.body.now) (view l.self)
-    ≡ meaning l.program (Turn (behind l.turn.test) (behind l.turn.post) l.turn.body.now) (view l.fn.self)
+    telling l.program (Turn (behind l.turn.test) (behind l.turn.post) l.turn.body.now) (view l.self)
+    ≡ telling l.program (Turn (behind l.turn.test) (behind l.turn.post) l.turn.body.now) (view l.fn.self)
 
 abbrev pub invariant-run_sections-statements : goal.invariant-run_sections-statements
 invariant-run_sections-statements l =
-    run_from (meaning l.program) (l.rest ++ bodies l.later) (view l.self)
-    ≡ run_from (meaning l.program) (l.fn.first ++ bodies l.fn.behind) (view l.fn.self)
+    run_from (telling l.program) (l.rest ++ bodies l.later) (view l.self)
+    ≡ run_from (telling l.program) (l.fn.first ++ bodies l.fn.behind) (view l.fn.self)
 
 abbrev pub decreases-run_sections-statements : goal.decreases-run_sections-statements
 decreases-run_sections-statements l = length (l.rest ++ bodies l.later) + length l.later
