@@ -11,13 +11,16 @@ use Rattle.block_check.specs.Faults.{IsGood}
 use Rattle.block_check.specs.Images.{IsFirstBad}
 use Rattle.target_file.proofs.Laws as files
 use Rattle.trips_isa.specs.Images.{FitsImage}
+use Rattle.c_tree.specs.declared.tree.Program.{Program}
 use Rattle.c_tree.specs.declared.typed.TypedProgram.{TypedProgram}
 use Rattle.c_lex.specs.Lexes.{Tokens}
 use Rattle.c_type_expr.specs.declared.fault.TypeFault.{TypeFault}
 use Rattle.c_lex.proofs.Once.{lexes_once}
 use Rattle.c_front.specs.declared.refusal.Refusal.{Refusal}
 use Rattle.c_front.specs.declared.refusal.Refusal.TheVariants.{Lex, Directive, Parse, Typing, Memory}
-use Rattle.c_front.proofs.Once.{not_both, accepted_once, refused_once}
+use Rattle.c_front.specs.Fronts.{HasTree, HasTypes}
+use Rattle.c_front.proofs.Once.{not_both, accepted_once, refused_once, tree_once}
+use Rattle.trips_explain_endings.specs.Definitions.{definitions_of}
 use Rattle.trips_explain_answers.specs.declared.shape.Shape.{Shape}
 use Rattle.trips_explain_answers.specs.declared.shape.Shape.TheVariants.{Source, Target, Image as Picture}
 use Rattle.trips_explain_answers.specs.Told.{refusal_told}
@@ -26,6 +29,7 @@ use Rattle.trips_explain_answers.specs.Files.{IsBadTold, IsGoodTold}
 use Rattle.trips_explain_answers.specs.Files.{IsImageRefusalTold, IsImageAcceptedTold}
 use Rattle.trips_explain_answers.specs.Files.{IsTargetRefusalTold, IsTargetAcceptedTold}
 use Rattle.trips_explain_answers.specs.Further.{place_of}
+use Rattle.trips_explain_answers.specs.Evaluated.{evaluated_told}
 use Rattle.trips_explain_answers.specs.Explained.{IsTextRefusalTold, IsTextAcceptedTold, IsSeen, accepted_told}
 use Rattle.trips_explain_answers.specs.Explained.{IsBehind, IsBehindFault, typing_of}
 use Rattle.trips_explain_answers.specs.Explained.{IsRefusalOf, IsAcceptedOf, IsRefusalTold, IsAcceptedTold}
@@ -62,11 +66,25 @@ text_refusal_once file text a b x y =
     ∙ ap (λ (ts : Tokens). refusal_told file text ts y.0 ++ x.4) tokens
     ∙ ap (λ (t : List ℕ). refusal_told file text y.2 y.0 ++ t) more ∙ sym y.6
 
-text_accepted_once : (file text a b : List ℕ) → IsTextAcceptedTold file text a → IsTextAcceptedTold file text b
-    → a ≡ b
-text_accepted_once file text a b x y =
-    x.4 ∙ ap (λ (p : TypedProgram). accepted_told file text p x.2) (accepted_once text x.0 y.0 x.1 y.1)
-    ∙ ap (λ (ts : Tokens). accepted_told file text y.0 ts) (lexes_once text x.2 y.2 x.3.0 y.3.0) ∙ sym y.4
+-- a tree has one typed program, as its text has
+typed_once : (text : List ℕ) (t u : Program) (p q : TypedProgram) → HasTree text t → HasTree text u → HasTypes t p
+    → HasTypes u q → p ≡ q
+typed_once text t u p q a b x y = accepted_once text p q (t, a, x) (u, b, y)
+
+-- what is told of a text by its tree, its program and its tokens, with an input and so many steps
+text_told : List ℕ → List ℕ → List ℕ → ℕ → Program → TypedProgram → Tokens → List ℕ
+text_told file text input most tree program tokens = accepted_told file text program tokens
+    ++ evaluated_told file text (definitions_of tree.items) program input most
+
+text_accepted_once : (file text input : List ℕ) (most : ℕ) (a b : List ℕ)
+    → IsTextAcceptedTold file text input most a → IsTextAcceptedTold file text input most b → a ≡ b
+unfolding text_told
+text_accepted_once file text input most a b x y =
+    x.6 ∙ ap (λ (t : Program). text_told file text input most t x.2 x.4) (tree_once text x.0 y.0 x.1 y.1)
+    ∙ ap (λ (p : TypedProgram). text_told file text input most y.0 p x.4)
+    (typed_once text x.0 y.0 x.2 y.2 x.1 y.1 x.3 y.3)
+    ∙ ap (λ (ts : Tokens). text_told file text input most y.0 y.2 ts) (lexes_once text x.4 y.4 x.5.0 y.5.0)
+    ∙ sym y.6
 
 -- images --------------------------------------------------------------------------------------
 
@@ -127,27 +145,30 @@ refusal_once Source file bytes a b x y = text_refusal_once file bytes a b x y
 refusal_once Target file bytes a b x y = target_refusal_once file bytes a b x y
 refusal_once Picture file bytes a b x y = image_refusal_once file bytes a b x y
 
-accepted_one : (how : Shape) (file bytes a b : List ℕ) → IsAcceptedOf how file bytes a → IsAcceptedOf how file bytes b
-    → a ≡ b
-accepted_one Source file bytes a b x y = text_accepted_once file bytes a b x y
-accepted_one Target file bytes a b x y =
+accepted_one : (how : Shape) (file bytes input : List ℕ) (most : ℕ) (a b : List ℕ)
+    → IsAcceptedOf how file bytes input most a → IsAcceptedOf how file bytes input most b → a ≡ b
+accepted_one Source file bytes input most a b x y = text_accepted_once file bytes input most a b x y
+accepted_one Target file bytes input most a b x y =
     good_once file x.0 y.0 a b (files.one_image x.0 y.0 bytes x.1 y.1) x.2 y.2
-accepted_one Picture file bytes a b x y = good_once file x.0 y.0 a b (one_image x.0 y.0 bytes x.1 y.1) x.2 y.2
+accepted_one Picture file bytes input most a b x y =
+    good_once file x.0 y.0 a b (one_image x.0 y.0 bytes x.1 y.1) x.2 y.2
 
-not_both_of : (how : Shape) (file bytes a b : List ℕ) → IsAcceptedOf how file bytes a → IsRefusalOf how file bytes b
-    → ⊥
-not_both_of Source file bytes a b x y = not_both bytes x.0 y.0 x.1 y.1
-not_both_of Target file bytes a b x y = target_not_both file bytes a b x y
-not_both_of Picture file bytes a b x y = image_not_both file bytes a b x y
+not_both_of : (how : Shape) (file bytes input : List ℕ) (most : ℕ) (a b : List ℕ)
+    → IsAcceptedOf how file bytes input most a → IsRefusalOf how file bytes b → ⊥
+not_both_of Source file bytes input most a b x y = not_both bytes x.2 y.0 (x.0, x.1, x.3) y.1
+not_both_of Target file bytes input most a b x y = target_not_both file bytes a b x y
+not_both_of Picture file bytes input most a b x y = image_not_both file bytes a b x y
 
 -- of a file that is refused
 pub refusal_told_once : (file bytes a b : List ℕ) → IsRefusalTold file bytes a → IsRefusalTold file bytes b → a ≡ b
 refusal_told_once file bytes a b x y = refusal_once (shape_named file) file bytes a b x y
 
--- of a file that is accepted
-pub accepted_told_once : (file bytes a b : List ℕ) → IsAcceptedTold file bytes a → IsAcceptedTold file bytes b → a ≡ b
-accepted_told_once file bytes a b x y = accepted_one (shape_named file) file bytes a b x y
+-- of a file that is accepted, with one input and so many steps
+pub accepted_told_once : (file bytes input : List ℕ) (most : ℕ) (a b : List ℕ)
+    → IsAcceptedTold file bytes input most a → IsAcceptedTold file bytes input most b → a ≡ b
+accepted_told_once file bytes input most a b x y = accepted_one (shape_named file) file bytes input most a b x y
 
 -- no file is both
-pub not_both_told : (file bytes a b : List ℕ) → IsAcceptedTold file bytes a → IsRefusalTold file bytes b → ⊥
-not_both_told file bytes a b x y = not_both_of (shape_named file) file bytes a b x y
+pub not_both_told : (file bytes input : List ℕ) (most : ℕ) (a b : List ℕ)
+    → IsAcceptedTold file bytes input most a → IsRefusalTold file bytes b → ⊥
+not_both_told file bytes input most a b x y = not_both_of (shape_named file) file bytes input most a b x y

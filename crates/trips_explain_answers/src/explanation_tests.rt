@@ -16,7 +16,7 @@ fn assert_explained(
 ) -> Result<(), AllocError>
     requires short { length text.now < 4_294_967_295 }
 {
-    let answer = file_explained(alloc, "a.c", text.as_bytes())?;
+    let answer = file_explained(alloc, "a.c", text.as_bytes(), b"", 1_000)?;
     assert_eq!(rt; answer.status, status, "{text}");
     assert_eq!(rt; answer.report.as_slice(), report.as_bytes(), "{text}");
     Ok(())
@@ -30,14 +30,14 @@ fn counts_an_accepted_text(rt: HostRuntime) -> Result<(), Fail> {
         alloc,
         "int main(void)\n{\n    return 0;\n}\n",
         Status::Ended,
-        "a.c: accepted, functions 1, lines 4, tokens 10\n",
+        "a.c: accepted, functions 1, lines 4, tokens 10\nresult 0 in 4 steps\noutput: 0 bytes\n",
     )?;
     assert_explained(
         &rt,
         alloc,
         "int f(void);\nint main(void) { return f(); }\nint f(void) { return 1; }",
         Status::Ended,
-        "a.c: accepted, functions 2, lines 3, tokens 28\n",
+        "a.c: accepted, functions 2, lines 3, tokens 28\nresult 1 in 8 steps\noutput: 0 bytes\n",
     )?;
     Ok(())
 }
@@ -168,7 +168,7 @@ fn assert_file(
     if 1_000 < bytes.len() {
         return Ok(());
     }
-    let answer = file_explained(alloc, file, bytes.as_bytes())?;
+    let answer = file_explained(alloc, file, bytes.as_bytes(), b"", 1_000)?;
     assert_eq!(rt; answer.status, status, "{report}");
     assert_eq!(rt; answer.report.as_slice(), report.as_bytes(), "{report}");
     Ok(())

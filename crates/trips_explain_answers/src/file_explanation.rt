@@ -1,6 +1,6 @@
 //! The explanation of an image and of a target text.
 
-ghost use Rattle.std.specs.Prelude.{◌≡◌, List, ℕ, IfOk};
+ghost use Rattle.std.specs.Prelude.{◌≡◌, [], List, ℕ, IfOk};
 ghost use Rattle.trips_isa.specs.Images.{FitsImage};
 ghost use Rattle.block_image.specs.Spelling.{ImageBytes};
 ghost use Rattle.target_file.specs.Files.{TargetFile};
@@ -33,10 +33,10 @@ fn judged(alloc: Global, file: &str, image: Image) -> Result<Answer, AllocError>
     }
 }
 
-/// What the explanation of the bytes of an image is answered, under the name of its file.
+/// What the explanation of the bytes of an image is answered, under the name of its file: it takes no input.
 pub fn image_explained(alloc: Global, file: &str, bytes: &[u8]) -> Result<Answer, AllocError>
     ensures { IfOk result (λ answer.
-        IsExplainedAs shape.Image file.now bytes.now answer.status answer.report.items) }
+        IsExplainedAs shape.Image file.now bytes.now [] 0 answer.status answer.report.items) }
 {
     match decode(alloc, bytes) {
         Ok(image) => judged(alloc, file, image),
@@ -47,10 +47,10 @@ pub fn image_explained(alloc: Global, file: &str, bytes: &[u8]) -> Result<Answer
     }
 }
 
-/// What the explanation of a target text is answered, under the name of its file.
+/// What the explanation of a target text is answered, under the name of its file: it takes no input.
 pub fn target_explained(alloc: Global, file: &str, text: &[u8]) -> Result<Answer, AllocError>
     ensures { IfOk result (λ answer.
-        IsExplainedAs shape.Target file.now text.now answer.status answer.report.items) }
+        IsExplainedAs shape.Target file.now text.now [] 0 answer.status answer.report.items) }
 {
     match assemble_file(alloc, text) {
         Ok(image) => judged(alloc, file, image),
