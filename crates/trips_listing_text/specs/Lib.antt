@@ -1,0 +1,5 @@
+pub mod Scalars
+pub mod Functions
+pub mod Comments
+pub mod Listed
+pub mod inside
