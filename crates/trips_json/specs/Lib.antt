@@ -1,0 +1,5 @@
+pub mod Strings
+pub mod Lines
+pub mod Objects
+pub mod Words
+pub mod inside
