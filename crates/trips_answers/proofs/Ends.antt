@@ -10,7 +10,7 @@ use Rattle.trips_isa.specs.declared.run.Ending.{Ending}
 use Rattle.trips_isa.specs.declared.run.Ending.TheVariants as ending
 use Rattle.trips_isa.specs.Machine.{State, runs, start}
 use Rattle.trips_answers.specs.Work.{Work}
-use Rattle.trips_answers.specs.Work.{Run, Evaluate, Compile}
+use Rattle.trips_answers.specs.Work.{Run, Evaluate, Compile, Listing, Trap}
 use Rattle.trips_answers.specs.Work.{Assemble, Disassemble, Check, Draw, Explain, Record, Verify, Save, Four}
 use Rattle.trips_answers.specs.declared.forms.FileForm.{FileForm}
 use Rattle.trips_answers.specs.declared.forms.FileForm.TheVariants as form
@@ -220,10 +220,12 @@ is_evaluation Four how settings bytes input s report run e =
 is_evaluation Draw how settings bytes input s report run e =
     absurd (draw_is_defined run.0.blocks (settings.most - 1) s report run.2 e)
 is_evaluation Compile how settings bytes input s report run e = absurd (not_made s run.3 e)
+is_evaluation Listing how settings bytes input s report run e = absurd (not_made s run.1 e)
 is_evaluation Assemble how settings bytes input s report run e = absurd (not_made s run.1 e)
 is_evaluation Disassemble how settings bytes input s report run e = absurd (not_made s run.1 e)
 is_evaluation Check how settings bytes input s report run e = absurd (not_made s run.1 e)
 is_evaluation (Explain file) how settings bytes input s report run e = absurd (not_made s run.1 e)
+is_evaluation (Trap file) how settings bytes input s report run e = absurd (not_made s run.1 e)
 is_evaluation Verify how settings bytes input s report run e = absurd (not_made s run.1.5.0 e)
 is_evaluation Record how settings bytes input s report run e = absurd (end_is_defined run.2.0 run.2.1 (sym run.2.3 ∙ e))
 

@@ -15,7 +15,7 @@ use Rattle.block_check.specs.declared.fault.CheckFault.{CheckFault}
 use Rattle.block_check.specs.Faults.{IsGood}
 use Rattle.block_check.specs.Images.{IsFirstBad}
 use Rattle.trips_answers.specs.Work.{Work}
-use Rattle.trips_answers.specs.Work.{Run, Evaluate, Compile}
+use Rattle.trips_answers.specs.Work.{Run, Evaluate, Compile, Listing, Trap}
 use Rattle.trips_answers.specs.Work.{Assemble, Disassemble, Check, Draw, Explain, Record, Verify, Save, Four}
 use Rattle.block_image.specs.Spelling.{spelling}
 use Rattle.target_file.specs.Files.{TargetFile}
@@ -36,7 +36,8 @@ use Rattle.trips_trace_answers.specs.TraceAnswers.{IsVerdict, TellsTrace}
 use Rattle.trips_eval_answers.specs.Evaluation.{IsRefusedByFront, IsEvaluation}
 use Rattle.trips_explain_answers.specs.Explained.{IsAcceptedTold}
 use Rattle.trips_explain_answers.proofs.Once.{accepted_told_once, not_both_told, refusal_told_once}
-use Rattle.trips_answers.specs.Worked.{IsRunBy, IsRunOfText, IsCompiled, IsWorked, IsDone}
+use Rattle.trips_answers.specs.Worked.{IsRunBy, IsRunOfText, IsCompiled, IsListed, IsWorked, IsDone}
+use Rattle.trips_listing_answers.specs.Traps.{IsTrapTold}
 use Rattle.trips_answers.specs.Worked.{IsDoneBehind}
 use Rattle.trips_answers.specs.Fours.{AreImagesBy, Further, IsImageBy, IsNoProgram, IsRefusedAt, Program}
 use Rattle.trips_four_answers.specs.Report.{program_line}
@@ -128,6 +129,8 @@ not_worked Draw how settings bytes input s report out bad run =
     no_program_image how settings bytes out run.0 bad run.1
 not_worked Compile how settings bytes input s report out bad run =
     not_both bytes run.1.lowered.program bad.0 run.1.lowered.accepted bad.1
+not_worked Listing how settings bytes input s report out bad run =
+    let lowered = run.0.listed.image.lowered in not_both bytes lowered.program bad.0 lowered.accepted bad.1
 not_worked Assemble how settings bytes input s report out bad run =
     files.not_both run.0.0 bytes bad.0 run.0.1 bad.1
 not_worked Disassemble how settings bytes input s report out bad run =
@@ -135,7 +138,9 @@ not_worked Disassemble how settings bytes input s report out bad run =
 not_worked Check how settings bytes input s report out bad run =
     image_not_refused bytes out run.0.0 run.0.1 run.0.2 bad
 not_worked (Explain file) how settings bytes input s report out bad run =
-    not_both_told file bytes report out run.0 bad
+    not_both_told file bytes input settings.most report out run.0 bad
+not_worked (Trap file) how settings bytes input s report out bad run =
+    not_both_told file bytes input settings.most run.0.0 out run.0.2 bad
 not_worked Verify how settings bytes input s report out bad run =
     image_not_refused bytes out run.1.0 run.1.1.0 run.1.1.1 bad
 not_worked Record how settings bytes input s report out bad run =
@@ -153,10 +158,14 @@ refused_cannot Save how bytes out bad can = no_program_can how bytes out bad can
 refused_cannot Four how bytes out bad can = no_program_can how bytes bad.0 bad.1 can
 refused_cannot Draw how bytes out bad can = no_program_can how bytes out bad can
 refused_cannot Compile how bytes out bad can = not_both bytes can.0 bad.0 can.1 bad.1
+refused_cannot Listing how bytes out bad can = not_both bytes can.0 bad.0 can.1 bad.1
 refused_cannot Assemble how bytes out bad can = files.not_both can.1.0 bytes bad.0 can.1.1 bad.1
 refused_cannot Disassemble how bytes out bad can = decoded.not_both can.1.0 bytes bad.0 can.1.2 bad.1
 refused_cannot Check how bytes out bad can = image_not_refused bytes out can.1.0 can.1.1 can.1.2 bad
-refused_cannot (Explain file) how bytes out bad can = not_both_told file bytes can.0 out can.1 bad
+refused_cannot (Explain file) how bytes out bad can =
+    not_both_told file bytes can.1 can.0 can.2 out can.3 bad
+refused_cannot (Trap file) how bytes out bad can =
+    not_both_told file bytes can.1 can.0 can.2 out can.3 bad
 refused_cannot Verify how bytes out bad can = image_not_refused bytes out can.0 can.1.0 can.1.1 bad
 refused_cannot Record how bytes out bad can = image_not_refused bytes out can.0 can.1.0 can.1.1 bad
 
@@ -229,10 +238,12 @@ refusal_once Save how bytes a b x y = no_program_once how bytes a b x y
 refusal_once Four how bytes a b x y = program_once 0 how bytes a b x y
 refusal_once Draw how bytes a b x y = no_program_once how bytes a b x y
 refusal_once Compile how bytes a b x y = front_once bytes a b x y
+refusal_once Listing how bytes a b x y = front_once bytes a b x y
 refusal_once Assemble how bytes a b x y = no_text_once bytes a b x y
 refusal_once Disassemble how bytes a b x y = no_image_once bytes a b x y
 refusal_once Check how bytes a b x y = image_once bytes a b x y
 refusal_once (Explain file) how bytes a b x y = refusal_told_once file bytes a b x y
+refusal_once (Trap file) how bytes a b x y = refusal_told_once file bytes a b x y
 refusal_once Verify how bytes a b x y = image_once bytes a b x y
 refusal_once Record how bytes a b x y = image_once bytes a b x y
 
@@ -261,6 +272,8 @@ refused_exact told fs rose Evaluate how settings bytes input s report out n d ba
     done_refused Evaluate how settings bytes input s report out d bad
 refused_exact told fs rose Compile how settings bytes input s report out n d bad =
     done_refused Compile how settings bytes input s report out d bad
+refused_exact told fs rose Listing how settings bytes input s report out n d bad =
+    done_refused Listing how settings bytes input s report out d bad
 refused_exact told fs rose Assemble how settings bytes input s report out n d bad =
     done_refused Assemble how settings bytes input s report out d bad
 refused_exact told fs rose Disassemble how settings bytes input s report out n d bad =
@@ -269,6 +282,8 @@ refused_exact told fs rose Check how settings bytes input s report out n d bad =
     done_refused Check how settings bytes input s report out d bad
 refused_exact told fs rose (Explain file) how settings bytes input s report out n d bad =
     done_refused (Explain file) how settings bytes input s report out d bad
+refused_exact told fs rose (Trap file) how settings bytes input s report out n d bad =
+    done_refused (Trap file) how settings bytes input s report out d bad
 refused_exact told fs rose Save how settings bytes input s report out n d bad =
     done_refused Save how settings bytes input s report out d bad
 refused_exact told fs rose Draw how settings bytes input s report out n d bad =
@@ -279,21 +294,36 @@ refused_exact told fs rose Record how settings bytes input s report out n d bad 
 -- with an accepted text under `eval`
 pub eval_exact : (how : FileForm) (settings : Settings) (text input : List ℕ) (s : Status)
     (report : List ℕ) (program : TypedProgram) → IsDone Evaluate how settings text input s report
-    → IsAccepted text program → IsEvaluation program input settings.most s report
+    → IsAccepted text program → IsEvaluation text program input settings.most s report
 eval_exact how settings text input s report program (inl x) is =
     absurd (not_both text program x.1.0 is x.1.1)
 eval_exact how settings text input s report program (inr run) is =
-    subst (λ (p : TypedProgram). IsEvaluation p input settings.most s report)
+    subst (λ (p : TypedProgram). IsEvaluation text p input settings.most s report)
     (accepted_once text run.0 program run.1 is) run.2
 
 -- with an accepted text under `explain`
 pub explained_exact : (file : List ℕ) (how : FileForm) (settings : Settings) (text input : List ℕ) (s : Status)
     (report told : List ℕ) → IsDone (Explain file) how settings text input s report
-    → IsAcceptedTold file text told → (s ≡ status.Ended) × (report ≡ told)
+    → IsAcceptedTold file text input settings.most told → (s ≡ status.Ended) × (report ≡ told)
 explained_exact file how settings text input s report told (inl x) is =
-    absurd (not_both_told file text told x.0 is x.1)
+    absurd (not_both_told file text input settings.most told x.0 is x.1)
 explained_exact file how settings text input s report told (inr run) is =
-    (run.1, accepted_told_once file text report told run.0 is)
+    (run.1, accepted_told_once file text input settings.most report told run.0 is)
+
+-- with an accepted text under `explain --trap`
+pub trap_exact : (file : List ℕ) (how : FileForm) (settings : Settings) (text input : List ℕ) (s : Status)
+    (report told : List ℕ) → IsDone (Trap file) how settings text input s report
+    → IsAcceptedTold file text input settings.most told
+    → (s ≡ status.Ended) × (trap : List ℕ) × IsTrapTold text input settings.most trap × (report ≡ told ++ trap)
+trap_exact file how settings text input s report told (inl x) is =
+    absurd (not_both_told file text input settings.most told x.0 is x.1)
+trap_exact file how settings text input s report told (inr run) is = (
+  run.1,
+  run.0.1,
+  run.0.3,
+  run.0.4 ∙ ap (λ (t : List ℕ). t ++ run.0.1)
+      (accepted_told_once file text input settings.most run.0.0 told run.0.2 is),
+)
 
 -- with an image of good blocks under `run`
 pub image_exact : (settings : Settings) (bytes input : List ℕ) (s : Status) (report : List ℕ)
@@ -330,6 +360,14 @@ pub compiled_exact : (how : FileForm) (settings : Settings) (text input : List �
 compiled_exact how settings text input s report program (inl x) is =
     absurd (not_both text program x.1.0 is x.1.1)
 compiled_exact how settings text input s report program (inr run) is = run
+
+-- with an accepted text under `compile --listing`
+pub listed_exact : (how : FileForm) (settings : Settings) (text input : List ℕ) (s : Status)
+    (report : List ℕ) (program : TypedProgram) → IsDone Listing how settings text input s report
+    → IsAccepted text program → IsListed settings.placing settings.unroll text s report
+listed_exact how settings text input s report program (inl x) is =
+    absurd (not_both text program x.1.0 is x.1.1)
+listed_exact how settings text input s report program (inr run) is = run
 
 -- a text is that of one spelling, and bytes are those of one text
 one_spelling : (text a b : List ℕ) → IsAssembled text a → IsAssembled text b → a ≡ b

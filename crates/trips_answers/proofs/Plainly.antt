@@ -12,6 +12,11 @@ use Rattle.trips_isa.specs.declared.run.Stepped.{Stepped}
 use Rattle.trips_isa.specs.Machine.{State, runs, start}
 use Rattle.c_compile.specs.Images.{MeansText}
 use Rattle.c_compile.proofs.Images.{images_mean}
+use Rattle.grid_place.specs.declared.placed.Placing.TheVariants.{Greedy}
+use Rattle.trips_listing_text.specs.Comments.{comments}
+use Rattle.trips_listing_text.specs.Functions.{told_all}
+use Rattle.trips_listing_answers.specs.Traps.{IsTrapTold}
+use Rattle.trips_listing_answers.proofs.Bare.{tells_images}
 use Rattle.c_compile.proofs.Meant.{does_text, good_blocks}
 use Rattle.grid_cycle_spec.specs.Costs.{cost_in, cost_of}
 use Rattle.grid_machine.specs.Answered.{ComesTo}
@@ -20,7 +25,7 @@ use Rattle.grid_cycle.specs.declared.conditions.Conditions.{Conditions}
 use Rattle.trips_report.specs.declared.measured.Measured.{Measured}
 use Rattle.trips_report.specs.declared.show.Show.{Show}
 use Rattle.trips_answers.specs.Work.{Work}
-use Rattle.trips_answers.specs.Work.{Run, Evaluate, Compile}
+use Rattle.trips_answers.specs.Work.{Run, Evaluate, Compile, Listing, Trap}
 use Rattle.trips_answers.specs.Work.{Assemble, Disassemble, Check, Draw, Explain, Record, Verify, Save, Four}
 use Rattle.trips_requests.specs.declared.loading.Loaded.{Loaded}
 use Rattle.trips_requests.specs.declared.loading.Loaded.TheVariants.{Fault, TooLarge, Bytes}
@@ -47,7 +52,7 @@ use Rattle.trips_answers.specs.Answer.{IsAnswerBehind, IsAnswer}
 use Rattle.trips_answers.specs.Table.{EndsAs, IsReportedFrom}
 use Rattle.trips_answers.specs.Ended.{ResultMeans}
 use Rattle.trips_answers.specs.Evaluated.{ResultTells}
-use Rattle.trips_answers.specs.Done.{AreImagesFor, CanBeDone, DoesWork, IsImageFor}
+use Rattle.trips_answers.specs.Done.{AreImagesFor, CanBeDone, DoesWork, IsImageFor, TellsTrap}
 use Rattle.trips_answers.specs.Causes.{CannotBeDone, EndsOrRefuses, EndsWork, IsUnfit, MayAnswer}
 use Rattle.trips_answers.specs.Causes.{MayAnswerBehind, MayBeFurtherFault, MayBeUnfit}
 use Rattle.trips_requests.specs.Texts.{IsFixed, read_fault_text, too_large_text}
@@ -131,6 +136,16 @@ images_for settings (p ∷ ps) (image ∷ images) h =
 images_for settings [] (image ∷ images) h = absurd h
 images_for settings (p ∷ ps) [] h = absurd h
 
+-- what is told of a trap
+pub trap_does : (text input : List ℕ) (most : ℕ) (trap : List ℕ) → IsTrapTold text input most trap
+    → TellsTrap text input most trap
+trap_does text input most trap h = let means = images_mean text Greedy 1 h.image h.listed.image in (
+  h.image,
+  does_text text Greedy 1 h.image means,
+  comments h.entries (told_all text h.tokens h.tree.items),
+  h.is,
+)
+
 -- work that was done, said of texts, images and the machine
 does_work : (work : Work) (how : FileForm) (settings : Settings) (bytes input : List ℕ) (s : Status)
     (report : List ℕ) → IsWorked work how settings bytes input s report
@@ -177,10 +192,30 @@ does_work Compile how settings bytes input s report run =
       ),
       run.3,
     )
+does_work Listing how settings bytes input s report run =
+    let told = tells_images bytes settings.placing settings.unroll report run.0 in
+    let means : MeansText bytes settings.placing settings.unroll told.0 =
+    images_mean bytes settings.placing settings.unroll told.0 told.1 in (
+      (
+        told.0,
+        does_text bytes settings.placing settings.unroll told.0 means,
+        good_blocks bytes settings.placing settings.unroll told.0 means,
+        told.2,
+      ),
+      run.1,
+    )
 does_work Assemble how settings bytes input s report run = run
 does_work Disassemble how settings bytes input s report run = run
 does_work Check how settings bytes input s report run = run
 does_work (Explain file) how settings bytes input s report run = run
+does_work (Trap file) how settings bytes input s report run = (
+  run.0.0,
+  run.0.1,
+  run.0.2,
+  trap_does bytes input settings.most run.0.1 run.0.3,
+  run.0.4,
+  run.1,
+)
 does_work Verify how settings bytes input s report run = run
 does_work Record how settings bytes input s report run = run
 
@@ -208,10 +243,13 @@ worked_can Four how settings bytes input s report run =
     let first = first_image settings how bytes run.0 run.1 run.2 in four_can how settings bytes first.0 first.1
 worked_can Draw how settings bytes input s report run = four_can how settings bytes run.0 run.1
 worked_can Compile how settings bytes input s report run = (run.1.lowered.program, run.1.lowered.accepted)
+worked_can Listing how settings bytes input s report run =
+    let lowered = run.0.listed.image.lowered in (lowered.program, lowered.accepted)
 worked_can Assemble how settings bytes input s report run = (report, run.0)
 worked_can Disassemble how settings bytes input s report run = (report, run.0)
 worked_can Check how settings bytes input s report run = (report, run.0)
-worked_can (Explain file) how settings bytes input s report run = (report, run.0)
+worked_can (Explain file) how settings bytes input s report run = (settings.most, input, report, run.0)
+worked_can (Trap file) how settings bytes input s report run = (settings.most, input, run.0.0, run.0.2)
 worked_can Verify how settings bytes input s report run = (run.1.0, run.1.1)
 worked_can Record how settings bytes input s report run = (run.0, run.1)
 

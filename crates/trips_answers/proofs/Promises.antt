@@ -1,5 +1,5 @@
 -- What the program promises in plain words, from the table.
-use Rattle.std.proofs.Common.{◌≡◌, ◌≢◌, ℕ, ◌-◌, List, [], ◌∷◌, Option, Some, inl, inr}
+use Rattle.std.proofs.Common.{◌≡◌, ◌≢◌, ℕ, ◌-◌, ◌++◌, List, [], ◌∷◌, Option, Some, inl, inr}
 use Rattle.trips_isa.specs.declared.block.Image.{Image}
 use Rattle.trips_isa.specs.Machine.{State, start}
 use Rattle.c_tree.specs.declared.typed.TypedProgram.{TypedProgram}
@@ -7,6 +7,7 @@ use Rattle.c_front.specs.Fronts.{IsAccepted}
 use Rattle.c_compile.specs.Images.{MeansText}
 use Rattle.c_compile.specs.Meant.{DoesText}
 use Rattle.c_compile.proofs.Images.{images_mean}
+use Rattle.trips_listing_answers.proofs.Bare.{tells_images}
 use Rattle.c_compile.proofs.Meant.{does_text, good_blocks}
 use Rattle.trips_report.specs.declared.show.Show.{Show}
 use Rattle.machine_save.specs.Spelling.{SaveBytes}
@@ -16,7 +17,7 @@ use Rattle.trips_grid_answers.specs.Saved.{IsSavedRun}
 use Rattle.trips_trace_answers.specs.TraceAnswers.{IsVerdict, TellsTrace}
 use Rattle.trips_four_answers.specs.Report.{TellsFour}
 use Rattle.trips_answers.specs.Work.{Work}
-use Rattle.trips_answers.specs.Work.{Run, Evaluate, Compile}
+use Rattle.trips_answers.specs.Work.{Run, Evaluate, Compile, Listing, Trap}
 use Rattle.trips_answers.specs.Work.{Assemble, Disassemble, Check, Draw, Explain, Record, Verify, Save, Four}
 use Rattle.trips_requests.specs.declared.status.Status.{Status}
 use Rattle.trips_requests.specs.declared.status.Status.TheVariants as status
@@ -32,7 +33,7 @@ use Rattle.trips_answers.specs.Report.{TellsRun}
 use Rattle.trips_answers.specs.Answer.{IsAnswer}
 use Rattle.trips_answers.specs.Table.{IsAnswered}
 use Rattle.trips_answers.specs.Evaluated.{ResultTells}
-use Rattle.trips_answers.specs.Done.{AreImagesFor, CanBeRun, IsImageIn, Makes, WritesImage}
+use Rattle.trips_answers.specs.Done.{AreImagesFor, CanBeRun, IsImageIn, Makes, WritesImage, WritesListing, TellsTrap}
 use Rattle.trips_answers.specs.Fours.{AreTold, Program, further_of}
 use Rattle.trips_answers.specs.Causes.{EndsWork, HasCauses, IsTooLarge, MayAnswer, RefusesUnfit}
 use Rattle.trips_answers.proofs.Causes as causes
@@ -40,6 +41,8 @@ use Rattle.trips_answers.proofs.FourExact as four
 use Rattle.trips_answers.proofs.Reported as reported
 use Rattle.trips_answers.proofs.ShownRuns as shown
 use Rattle.trips_answers.proofs.Plainly.{answer_so, ends_work, images_for, may_be_unfit, reported_tells, result_tells}
+use Rattle.trips_answers.proofs.Plainly.{trap_does}
+use Rattle.trips_explain_answers.specs.Explained.{IsAcceptedTold}
 
 module _ (held : List ℕ → Option (List ℕ)) (rose : Type 0) (old new : Option (List ℕ))
     (cut : Type 0) (q : Option Request) (s : Status) (a : IsAnswered q held rose old new cut s) where
@@ -145,13 +148,35 @@ module _ (held : List ℕ → Option (List ℕ)) (rose : Type 0) (old new : Opti
         (made.4, made.5),
       )
 
+  -- what is listed
+  pub listed : (how : FileForm) (most : ℕ) (show : Show) (text input : List ℕ) (program : TypedProgram)
+      → (asks : AsksFor q held Listing how most show text input) → IsAccepted text program
+      → (rose → ⊥) → (cut → ⊥) → s ≢ status.Memory
+      → (listing : List ℕ) × WritesListing text asks.q.unroll listing × Reports s old new status.Ended listing
+  listed how most show text input program asks is r c m =
+      let made = reported.listed held rose old new cut q s a how most show text input program asks is r c m in
+      let told = tells_images text asks.q.placing asks.q.unroll made.0 made.1 in
+      let means : MeansText text asks.q.placing asks.q.unroll told.0 =
+      images_mean text asks.q.placing asks.q.unroll told.0 told.1 in (
+        made.0,
+        (
+          told.0,
+          does_text text asks.q.placing asks.q.unroll told.0 means,
+          good_blocks text asks.q.placing asks.q.unroll told.0 means,
+          told.2,
+        ),
+        (made.2, made.3),
+      )
+
   -- what a tool makes
   pub made : (work : Work) (how : FileForm) (most : ℕ) (show : Show) (bytes input out : List ℕ)
-      → AsksFor q held work how most show bytes input → Makes work bytes out
+      → AsksFor q held work how most show bytes input → Makes work most bytes input out
       → (rose → ⊥) → (cut → ⊥) → s ≢ status.Memory → Reports s old new status.Ended out
   made Run how most show bytes input out asks is r c m = absurd is
   made Evaluate how most show bytes input out asks is r c m = absurd is
   made Compile how most show bytes input out asks is r c m = absurd is
+  made (Trap file) how most show bytes input out asks is r c m = absurd is
+  made Listing how most show bytes input out asks is r c m = absurd is
   made Record how most show bytes input out asks is r c m = absurd is
   made Verify how most show bytes input out asks is r c m = absurd is
   made Save how most show bytes input out asks is r c m = absurd is
@@ -165,6 +190,15 @@ module _ (held : List ℕ → Option (List ℕ)) (rose : Type 0) (old new : Opti
       reported.checked held rose old new cut q s a how most show bytes input out asks is r c m
   made (Explain file) how most show bytes input out asks is r c m =
       reported.explained held rose old new cut q s a file how most show bytes input out asks is r c m
+
+  -- what is told of a trap
+  pub trapped : (file : List ℕ) (how : FileForm) (most : ℕ) (show : Show) (text input told : List ℕ)
+      → AsksFor q held (Trap file) how most show text input → IsAcceptedTold file text input most told
+      → (rose → ⊥) → (cut → ⊥) → s ≢ status.Memory
+      → (trap : List ℕ) × TellsTrap text input most trap × Reports s old new status.Ended (told ++ trap)
+  trapped file how most show text input told asks is r c m =
+      let made = reported.trapped held rose old new cut q s a file how most show text input told asks is r c m in
+      (made.0, trap_does text input most made.0 made.1, (made.2, made.3))
 
   -- the trace of a run
   pub recorded : (how : FileForm) (most : ℕ) (show : Show) (bytes input : List ℕ) (image : Image)

@@ -1,6 +1,6 @@
 -- What is written where the request's file and input are told and nothing fails.
 use Rattle.std.proofs.Common.{◌≡◌, ◌≢◌, ℕ, ℤ, ◌+◌, ◌-◌, ◌*◌, ◌≤◌, List, Option, Some}
-use Rattle.std.proofs.Common.{All, refl, subst}
+use Rattle.std.proofs.Common.{All, refl, subst, ◌++◌}
 use Rattle.trips_outside.specs.Outside.{Appended}
 use Rattle.trips_isa.specs.declared.block.Image.{Image}
 use Rattle.trips_isa.specs.Machine.{runs, start}
@@ -9,6 +9,8 @@ use Rattle.c_meaning_spec.specs.declared.signal.Ending.TheVariants.{Deep}
 use Rattle.c_meaning_spec.specs.Eval.{Stopped, Done, eval}
 use Rattle.c_front.specs.Fronts.{IsAccepted}
 use Rattle.c_compile.specs.Images.{IsImageOf}
+use Rattle.trips_listing_answers.specs.Listings.{IsListing}
+use Rattle.trips_listing_answers.specs.Traps.{IsTrapTold}
 use Rattle.block_image.specs.Spelling.{ImageBytes}
 use Rattle.block_check.specs.Faults.{IsGood}
 use Rattle.grid_cycle_spec.specs.Costs.{cost_of}
@@ -19,7 +21,7 @@ use Rattle.trips_grid_answers.specs.Saved.{IsSavedRun}
 use Rattle.trips_tools.specs.Tools.{IsAssembled, IsGoodImage, IsOneImage}
 use Rattle.trips_trace_answers.specs.TraceAnswers.{IsVerdict, TellsTrace}
 use Rattle.trips_answers.specs.Work.{Work}
-use Rattle.trips_answers.specs.Work.{Run, Evaluate, Compile}
+use Rattle.trips_answers.specs.Work.{Run, Evaluate, Compile, Listing, Trap}
 use Rattle.trips_answers.specs.Work.{Assemble, Disassemble, Check, Draw, Explain, Record, Verify, Save, Four}
 use Rattle.trips_answers.specs.declared.forms.FileForm.{FileForm}
 use Rattle.trips_answers.specs.declared.forms.FileForm.TheVariants as form
@@ -42,8 +44,8 @@ use Rattle.trips_answers.specs.Causes.{HasLargeFile, HasLargeInput}
 use Rattle.trips_answers.proofs.Complete.{complete, large_file, large_input}
 use Rattle.trips_answers.proofs.Exact.{refused_exact, eval_exact}
 use Rattle.trips_answers.proofs.Exact.{image_exact, text_exact, recorded_exact, verified_exact}
-use Rattle.trips_answers.proofs.Exact.{compiled_exact, assembled_exact, disassembled_exact, checked_exact}
-use Rattle.trips_answers.proofs.Exact.{explained_exact}
+use Rattle.trips_answers.proofs.Exact.{compiled_exact, listed_exact, assembled_exact, disassembled_exact, checked_exact}
+use Rattle.trips_answers.proofs.Exact.{explained_exact, trap_exact}
 use Rattle.trips_answers.proofs.DrawnExact.{drawn_image_exact, drawn_target_exact, drawn_text_exact}
 use Rattle.trips_answers.proofs.SavedExact.{saved_image_exact, saved_target_exact, saved_text_exact}
 use Rattle.trips_explain_answers.specs.Explained.{IsAcceptedTold}
@@ -117,7 +119,7 @@ module _ (held : List ℕ → Option (List ℕ)) (rose : Type 0) (old new : Opti
       (steps : ℕ) (text input : List ℕ) (program : TypedProgram)
       → AsksFor q held Evaluate how steps nothing_shown text input → IsAccepted text program → (rose → ⊥)
       → (cut → ⊥) → s ≢ status.Memory → (s ≡ eval_status (outcome_of program input steps))
-      × Appended old new (eval_report (outcome_of program input steps))
+      × Appended old new (eval_report text (outcome_of program input steps))
   evaluation s a how steps text input program asks is r c m =
       let row = row_of s a c m in
       let done = complete q held rose s row.0 row.1 r Evaluate how steps nothing_shown text input asks in
@@ -156,6 +158,20 @@ module _ (held : List ℕ → Option (List ℕ)) (rose : Type 0) (old new : Opti
       let run = compiled_exact how (settings_with asks.q most show) text input s row.0 program
       done is in
       (run.0, run.1, row.0, run.2, run.3, row.2)
+
+  -- a program's text of which a listing is asked for gives that of its image
+  pub listed : (s : Status) → IsAnswered q held rose old new cut s → (how : FileForm) (most : ℕ)
+      (show : Show) (text input : List ℕ) (program : TypedProgram)
+      → (asks : AsksFor q held Listing how most show text input) → IsAccepted text program
+      → (rose → ⊥) → (cut → ⊥) → s ≢ status.Memory
+      → (listing : List ℕ) × IsListing text asks.q.placing asks.q.unroll listing
+      × (s ≡ status.Ended) × Appended old new listing
+  listed s a how most show text input program asks is r c m =
+      let row = row_of s a c m in
+      let done = complete q held rose s row.0 row.1 r Listing how most show text input asks in
+      let run = listed_exact how (settings_with asks.q most show) text input s row.0 program
+      done is in
+      (row.0, run.0, run.1, row.2)
 
   -- a target text that is assembled gives the bytes of its image
   pub assembled : (s : Status) → IsAnswered q held rose old new cut s → (how : FileForm) (most : ℕ)
@@ -199,7 +215,7 @@ module _ (held : List ℕ → Option (List ℕ)) (rose : Type 0) (old new : Opti
   -- a program's text that is explained gives what is told of it
   pub explained : (s : Status) → IsAnswered q held rose old new cut s → (file : List ℕ) (how : FileForm) (most : ℕ)
       (show : Show) (text input report : List ℕ)
-      → AsksFor q held (Explain file) how most show text input → IsAcceptedTold file text report
+      → AsksFor q held (Explain file) how most show text input → IsAcceptedTold file text input most report
       → (rose → ⊥) → (cut → ⊥) → s ≢ status.Memory
       → (s ≡ status.Ended) × Appended old new report
   explained s a file how most show text input report asks is r c m =
@@ -208,6 +224,19 @@ module _ (held : List ℕ → Option (List ℕ)) (rose : Type 0) (old new : Opti
       let told = explained_exact file how (settings_with asks.q most show) text input s row.0 report
       done is in
       (told.0, subst (Appended old new) told.1 row.2)
+
+  -- one of which a trap is asked for gives that, and what is told of a trap
+  pub trapped : (s : Status) → IsAnswered q held rose old new cut s → (file : List ℕ) (how : FileForm) (most : ℕ)
+      (show : Show) (text input told : List ℕ)
+      → AsksFor q held (Trap file) how most show text input → IsAcceptedTold file text input most told
+      → (rose → ⊥) → (cut → ⊥) → s ≢ status.Memory
+      → (trap : List ℕ) × IsTrapTold text input most trap × (s ≡ status.Ended) × Appended old new (told ++ trap)
+  trapped s a file how most show text input told asks is r c m =
+      let row = row_of s a c m in
+      let done = complete q held rose s row.0 row.1 r (Trap file) how most show text input asks in
+      let exact = trap_exact file how (settings_with asks.q most show) text input s row.0 told
+      done is in
+      (exact.1, exact.2, exact.0, subst (Appended old new) exact.3 row.2)
 
   -- the bytes of a good image that are recorded give the trace of its run
   pub recorded : (s : Status) → IsAnswered q held rose old new cut s → (how : FileForm) (most : ℕ)

@@ -15,7 +15,7 @@ use Rattle.trips_isa.specs.Machine.{State, runs, start}
 use Rattle.c_meaning.specs.declared.outcome.Outcome.{Outcome}
 use Rattle.c_meaning.specs.declared.outcome.Outcome.TheVariants as outcome
 use Rattle.trips_answers.specs.Work.{Work}
-use Rattle.trips_answers.specs.Work.{Run, Evaluate, Compile}
+use Rattle.trips_answers.specs.Work.{Run, Evaluate, Compile, Listing, Trap}
 use Rattle.trips_answers.specs.Work.{Assemble, Disassemble, Check, Draw, Explain, Record, Verify, Save, Four}
 use Rattle.trips_answers.specs.declared.forms.FileForm.{FileForm}
 use Rattle.trips_answers.specs.declared.forms.FileForm.TheVariants as form
@@ -107,9 +107,9 @@ drawn_tells how settings bytes input image s report is (inr none) =
 
 eval_tells : (o : Outcome) → is_told (eval_status o) ≡ true
 unfolding is_told
-eval_tells outcome.More = refl
-eval_tells (outcome.Undefined output why) = refl
-eval_tells outcome.Deep = refl
+eval_tells (outcome.More output at calls) = refl
+eval_tells (outcome.Undefined output why at calls) = refl
+eval_tells (outcome.Deep output at calls) = refl
 eval_tells (outcome.Done output result steps) = end_tells (cast_unsigned w64 result == aborted_word)
 
 -- the first end of some that is none of a result, or that of the last, tells how a run ended
@@ -163,10 +163,12 @@ work_tells Four how settings bytes input s report run =
 work_tells Draw how settings bytes input s report run =
     drawn_tells how settings bytes input run.0 s report (image_for how settings bytes run.0 run.1) run.2
 work_tells Compile how settings bytes input s report run = inl (ap is_told run.3)
+work_tells Listing how settings bytes input s report run = inl (ap is_told run.1)
 work_tells Assemble how settings bytes input s report run = inl (ap is_told run.1)
 work_tells Disassemble how settings bytes input s report run = inl (ap is_told run.1)
 work_tells Check how settings bytes input s report run = inl (ap is_told run.1)
 work_tells (Explain file) how settings bytes input s report run = inl (ap is_told run.1)
+work_tells (Trap file) how settings bytes input s report run = inl (ap is_told run.1)
 work_tells Verify how settings bytes input s report run = inl (ap is_told run.1.5.0)
 work_tells Record how settings bytes input s report run = inl (ap is_told run.2.3 ∙ tells run.2.0 run.2.1)
 

@@ -1,7 +1,7 @@
 -- What the parts of an answer say together.
 use Rattle.std.proofs.Common.{◌≡◌, ◌≢◌, ℕ, ◌<◌, ◌≤◌, List, Option}
 use Rattle.std.proofs.Common.{None, Some, Result, Ok, Err, IfOk, All}
-use Rattle.std.proofs.Common.{inl, inr, refl, sym, ap, subst, arith, ◌⊎◌}
+use Rattle.std.proofs.Common.{inl, inr, refl, sym, ap, subst, arith, ◌⊎◌, ◌++◌, ◌∙◌}
 use Rattle.trips_isa.specs.declared.block.Image.{Image}
 use Rattle.block_image.specs.Spelling.{ImageBytes}
 use Rattle.block_check.specs.Faults.{IsGood}
@@ -10,6 +10,8 @@ use Rattle.c_front.specs.declared.refusal.Refusal.{Refusal}
 use Rattle.c_front.specs.declared.refusal.Refusal.TheVariants as stage
 use Rattle.c_front.specs.Refusals.{IsRefused, MayBeRefused}
 use Rattle.c_compile.specs.Images.{IsImageOf}
+use Rattle.trips_listing_answers.specs.Listings.{IsListing}
+use Rattle.trips_listing_answers.specs.Traps.{IsTrapTold}
 use Rattle.c_meaning_spec.specs.Laws.{IsInput}
 use Rattle.grid_place.specs.declared.placed.Placing.{Placing}
 use Rattle.trips_outside.specs.Outside.{Rose}
@@ -18,8 +20,8 @@ use Rattle.trips_requests.specs.declared.status.Status.TheVariants as status
 use Rattle.trips_requests.specs.declared.answer.Answer.{Answer}
 use Rattle.trips_requests.specs.declared.commands.Command.{Command}
 use Rattle.trips_answers.specs.Work.{Work, work_on}
-use Rattle.trips_answers.specs.Work.{Run, Evaluate, Compile}
-use Rattle.trips_answers.specs.Work.{Assemble, Disassemble, Check, Explain, Record}
+use Rattle.trips_answers.specs.Work.{Run, Evaluate, Compile, Listing}
+use Rattle.trips_answers.specs.Work.{Assemble, Disassemble, Check, Explain, Record, Trap}
 use Rattle.trips_answers.specs.declared.forms.FileForm.{FileForm}
 use Rattle.trips_answers.specs.declared.forms.FileForm.TheVariants as form
 use Rattle.trips_answers.specs.declared.forms.Settings.{Settings}
@@ -46,7 +48,7 @@ use Rattle.trips_eval_answers.specs.Evaluation.{IsRefusedByFront}
 use Rattle.trips_eval_answers.specs.inside.Evaluation.{IsRefusalBy, IsTextEvaluated}
 use Rattle.trips_explain_answers.specs.inside.Explained.{IsExplained}
 use Rattle.trips_answers.specs.Settings.{settings_of}
-use Rattle.trips_answers.specs.Worked.{IsRunBy, IsDone, IsDoneBehind}
+use Rattle.trips_answers.specs.Worked.{IsRunBy, IsDone, IsDoneBehind, IsTrapExplained}
 use Rattle.trips_answers.specs.Fours.{Further, further_of}
 use Rattle.trips_answers.proofs.Fours.{read_last}
 use Rattle.trips_answers.proofs.Traced.{last}
@@ -114,6 +116,28 @@ written_told text placing unroll image (Ok a) is told = λ how settings input sa
           (subst (λ (n : ℕ). IsImageOf text placing n image) (sym turns) is),
       told.0,
       told.1,
+    )
+
+-- the refusal of a text under `compile --listing`
+pub list_refused_told : {E : Type 0} (text : List ℕ) (placing : Placing) (unroll : ℕ) (refusal : Refusal)
+    (r : Result Answer E)
+    → MayBeRefused text refusal → IfOk r (λ a. IsRefusalBy text refusal a.status a.report.items)
+    → IfOk r (λ a. (how : FileForm) (settings : Settings) (input : List ℕ) → settings.placing ≡ placing
+    → settings.unroll ≡ unroll → IsDone Listing how settings text input a.status a.report.items)
+list_refused_told text placing unroll refusal (Err e) may told = tt
+list_refused_told text placing unroll refusal (Ok a) may told =
+    λ how settings input same turns. inl (front_refusal text refusal, front_told text refusal may told.0, told.1)
+
+-- the listing of an image that is compiled from a text is written
+pub listed_told : (text : List ℕ) (placing : Placing) (unroll : ℕ) (report : List ℕ)
+    → IsListing text placing unroll report → (how : FileForm) (settings : Settings) (input : List ℕ)
+    → settings.placing ≡ placing → settings.unroll ≡ unroll
+    → IsDone Listing how settings text input status.Ended report
+listed_told text placing unroll report is how settings input same turns =
+    inr (
+      subst (λ (p : Placing). IsListing text p settings.unroll report) (sym same)
+          (subst (λ (n : ℕ). IsListing text placing n report) (sym turns) is),
+      refl,
     )
 
 -- images --------------------------------------------------------------------------------------
@@ -200,14 +224,59 @@ compile_told work how placing unroll settings bytes input (Ok a) is same turns t
     subst (λ (w : Work). IsDone w how settings bytes input a.status a.report.items) (sym is)
     (told how settings input same turns)
 
--- what `explain` does, whatever its file is read as
-pub explain_told : {E : Type 0} (work : Work) (how : FileForm) (file : List ℕ) (settings : Settings)
-    (bytes input : List ℕ) (r : Result Answer E) → work ≡ Explain file
-    → IfOk r (λ a. IsExplained file bytes a.status a.report.items)
+-- what `compile --listing` does, whatever its file is read as
+pub list_told : {E : Type 0} (work : Work) (how : FileForm) (placing : Placing) (unroll : ℕ)
+    (settings : Settings) (bytes input : List ℕ) (r : Result Answer E) → work ≡ Listing
+    → settings.placing ≡ placing → settings.unroll ≡ unroll
+    → IfOk r (λ a. (f : FileForm) (t : Settings) (i : List ℕ) → t.placing ≡ placing → t.unroll ≡ unroll
+    → IsDone Listing f t bytes i a.status a.report.items)
     → IfOk r (λ a. IsDone work how settings bytes input a.status a.report.items)
-explain_told work how file settings bytes input (Err e) is told = tt
-explain_told work how file settings bytes input (Ok a) is told =
-    subst (λ (w : Work). IsDone w how settings bytes input a.status a.report.items) (sym is) told
+list_told work how placing unroll settings bytes input (Err e) is same turns told = tt
+list_told work how placing unroll settings bytes input (Ok a) is same turns told =
+    subst (λ (w : Work). IsDone w how settings bytes input a.status a.report.items) (sym is)
+    (told how settings input same turns)
+
+-- what `explain` does, whatever its file is read as
+pub explain_told : {E : Type 0} (work : Work) (how : FileForm) (file : List ℕ) (steps : ℕ) (settings : Settings)
+    (bytes seen input : List ℕ) (r : Result Answer E) → work ≡ Explain file → settings.most ≡ steps
+    → seen ≡ input → IfOk r (λ a. IsExplained file bytes seen steps a.status a.report.items)
+    → IfOk r (λ a. IsDone work how settings bytes input a.status a.report.items)
+explain_told work how file steps settings bytes seen input (Err e) is most same told = tt
+explain_told work how file steps settings bytes seen input (Ok a) is most same told =
+    subst (λ (w : Work). IsDone w how settings bytes input a.status a.report.items) (sym is)
+    (subst (λ (i : List ℕ). IsExplained file bytes i settings.most a.status a.report.items) same
+    (subst (λ (m : ℕ). IsExplained file bytes seen m a.status a.report.items) (sym most) told))
+
+-- what `explain --trap` answers: what is told of a trap stands behind an accepted text's explanation
+pub trap_behind : (file text input : List ℕ) (steps : ℕ) (s t : Status) (told report : List ℕ)
+    → IsExplained file text input steps s told → s ≡ status.Ended → t ≡ s
+    → (trap : List ℕ) × IsTrapTold text input steps trap × (report ≡ told ++ trap)
+    → (how : FileForm) (settings : Settings) → settings.most ≡ steps
+    → IsDone (Trap file) how settings text input t report
+trap_behind file text input steps s t told report (inl refused) ended same trap how settings most =
+    let both : status.Ended ≡ status.Refused = sym ended ∙ refused.2.0 in absurd (cc)
+trap_behind file text input steps s t told report (inr accepted) ended same trap how settings most = inr (
+  subst (λ (m : ℕ). IsTrapExplained file text input m report) (sym most)
+      (told, trap.0, accepted.0, trap.1, trap.2),
+  same ∙ ended,
+)
+
+-- and elsewhere it is the refusal
+pub trap_refused : (file text input : List ℕ) (steps : ℕ) (s : Status) (report : List ℕ)
+    → IsExplained file text input steps s report → (s ≡ status.Ended → ⊥) → (how : FileForm) (settings : Settings)
+    → settings.most ≡ steps → IsDone (Trap file) how settings text input s report
+trap_refused file text input steps s report (inl refused) over how settings most = inl refused
+trap_refused file text input steps s report (inr accepted) over how settings most = absurd (over accepted.1)
+
+-- what it does, whatever its file is read as
+pub trap_done_told : {E : Type 0} (work : Work) (how : FileForm) (file : List ℕ) (steps : ℕ) (settings : Settings)
+    (bytes input : List ℕ) (r : Result Answer E) → work ≡ Trap file → settings.most ≡ steps
+    → IfOk r (λ a. (f : FileForm) (t : Settings) → t.most ≡ steps
+    → IsDone (Trap file) f t bytes input a.status a.report.items)
+    → IfOk r (λ a. IsDone work how settings bytes input a.status a.report.items)
+trap_done_told work how file steps settings bytes input (Err e) is most told = tt
+trap_done_told work how file steps settings bytes input (Ok a) is most told =
+    subst (λ (w : Work). IsDone w how settings bytes input a.status a.report.items) (sym is) (told how settings most)
 
 -- the work of a tool
 abbrev pub work_of : Tool → Work

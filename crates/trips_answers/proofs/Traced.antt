@@ -3,7 +3,7 @@ use Rattle.std.proofs.Common.{◌≡◌, ℕ, ◌≤◌, List, [], ◌∷◌, Op
 use Rattle.trips_isa.specs.declared.block.Image.{Image}
 use Rattle.trips_outside.specs.Outside.{Holds, Rose}
 use Rattle.trips_answers.specs.Work.{Work}
-use Rattle.trips_answers.specs.Work.{Run, Evaluate, Compile}
+use Rattle.trips_answers.specs.Work.{Run, Evaluate, Compile, Listing, Trap}
 use Rattle.trips_answers.specs.Work.{Assemble, Disassemble, Check, Draw, Explain, Record, Verify, Save, Four}
 use Rattle.trips_requests.specs.declared.status.Status.{Status}
 use Rattle.trips_requests.specs.declared.status.Status.TheVariants as status
@@ -51,10 +51,12 @@ part told fs rose Four how settings bytes input s report d =
 part told fs rose Run how settings bytes input s report d = inl d
 part told fs rose Evaluate how settings bytes input s report d = inl d
 part told fs rose Compile how settings bytes input s report d = inl d
+part told fs rose Listing how settings bytes input s report d = inl d
 part told fs rose Assemble how settings bytes input s report d = inl d
 part told fs rose Disassemble how settings bytes input s report d = inl d
 part told fs rose Check how settings bytes input s report d = inl d
 part told fs rose (Explain file) how settings bytes input s report d = inl d
+part told fs rose (Trap file) how settings bytes input s report d = inl d
 part told fs rose Record how settings bytes input s report d = inl d
 part told fs rose Save how settings bytes input s report d = inl d
 part told fs rose Draw how settings bytes input s report d = inl d
@@ -84,10 +86,12 @@ last told fs old now new Four how settings bytes input s report le d =
 last told fs old now new Run how settings bytes input s report le d = d
 last told fs old now new Evaluate how settings bytes input s report le d = d
 last told fs old now new Compile how settings bytes input s report le d = d
+last told fs old now new Listing how settings bytes input s report le d = d
 last told fs old now new Assemble how settings bytes input s report le d = d
 last told fs old now new Disassemble how settings bytes input s report le d = d
 last told fs old now new Check how settings bytes input s report le d = d
 last told fs old now new (Explain file) how settings bytes input s report le d = d
+last told fs old now new (Trap file) how settings bytes input s report le d = d
 last told fs old now new Record how settings bytes input s report le d = d
 last told fs old now new Save how settings bytes input s report le d = d
 last told fs old now new Draw how settings bytes input s report le d = d
@@ -102,10 +106,12 @@ other told fs rose Four how settings bytes input s report n f d = absurd (f refl
 other told fs rose Run how settings bytes input s report n f d = d
 other told fs rose Evaluate how settings bytes input s report n f d = d
 other told fs rose Compile how settings bytes input s report n f d = d
+other told fs rose Listing how settings bytes input s report n f d = d
 other told fs rose Assemble how settings bytes input s report n f d = d
 other told fs rose Disassemble how settings bytes input s report n f d = d
 other told fs rose Check how settings bytes input s report n f d = d
 other told fs rose (Explain file) how settings bytes input s report n f d = d
+other told fs rose (Trap file) how settings bytes input s report n f d = d
 other told fs rose Record how settings bytes input s report n f d = d
 other told fs rose Save how settings bytes input s report n f d = d
 other told fs rose Draw how settings bytes input s report n f d = d

@@ -1,6 +1,6 @@
 -- What is done with the bytes of a file, said of texts, images and the machine alone: neither the compiler's passes
 -- nor the grid stand in it.
-use Rattle.std.specs.Prelude.{◌≡◌, ◌-◌, ℕ, List, [], ◌∷◌, All}
+use Rattle.std.specs.Prelude.{◌≡◌, ◌++◌, ◌-◌, ℕ, List, [], ◌∷◌, All}
 use Rattle.trips_isa.specs.declared.block.Image.{Image}
 use Rattle.c_tree.specs.declared.typed.TypedProgram.{TypedProgram}
 use Rattle.c_front.specs.Fronts.{IsAccepted}
@@ -9,11 +9,12 @@ use Rattle.c_compile.specs.Meant.{DoesText}
 use Rattle.block_image.specs.Spelling.{ImageBytes}
 use Rattle.block_check.specs.Faults.{IsGood}
 use Rattle.target_file.specs.Files.{TargetFile}
+use Rattle.trips_listing_answers.specs.Traps.{end_of, ending_told}
 use Rattle.trips_tools.specs.Tools.{IsAssembled, IsGoodImage, IsOneImage}
 use Rattle.trips_trace_answers.specs.TraceAnswers.{IsRecording}
 use Rattle.trips_report.specs.declared.show.Show.{Show}
 use Rattle.trips_answers.specs.Work.{Work}
-use Rattle.trips_answers.specs.Work.{Run, Evaluate, Compile}
+use Rattle.trips_answers.specs.Work.{Run, Evaluate, Compile, Listing, Trap}
 use Rattle.trips_answers.specs.Work.{Assemble, Disassemble, Check, Draw, Explain, Record, Verify, Save, Four}
 use Rattle.trips_requests.specs.declared.status.Status.{Status}
 use Rattle.trips_requests.specs.declared.status.Status.TheVariants as status
@@ -57,13 +58,13 @@ AreImagesFor unroll files images = ⊥
 
 -- A tool makes this of the bytes of its file: `asm` the bytes of the text's image, `dis` the text of the image,
 -- `check` the report on an image of good blocks. Each is made of the bytes alone. What `explain` tells of an accepted
--- file begins with its name.
-abbrev pub Makes : Work → List ℕ → List ℕ → Type 0
-Makes Assemble text made = IsAssembled text made
-Makes Disassemble bytes made = IsOneImage made bytes
-Makes Check bytes made = IsGoodImage bytes made
-Makes (Explain file) text made = IsAcceptedTold file text made
-Makes work bytes made = ⊥
+-- file begins with its name; a text of C is evaluated on the input, within so many steps.
+abbrev pub Makes : Work → ℕ → List ℕ → List ℕ → List ℕ → Type 0
+Makes Assemble most text input made = IsAssembled text made
+Makes Disassemble most bytes input made = IsOneImage made bytes
+Makes Check most bytes input made = IsGoodImage bytes made
+Makes (Explain file) most text input made = IsAcceptedTold file text input most made
+Makes work most bytes input made = ⊥
 
 -- an image can be made of the bytes of a file, by what it is read as
 abbrev pub CanBeImage : FileForm → List ℕ → Type 0
@@ -83,10 +84,14 @@ CanBeDone Save how bytes = CanBeImage how bytes
 CanBeDone Four how bytes = CanBeImage how bytes
 CanBeDone Draw how bytes = CanBeImage how bytes
 CanBeDone Compile how text = IsProgram text
-CanBeDone Assemble how text = (made : List ℕ) × Makes Assemble text made
-CanBeDone Disassemble how bytes = (made : List ℕ) × Makes Disassemble bytes made
-CanBeDone Check how bytes = (made : List ℕ) × Makes Check bytes made
-CanBeDone (Explain file) how text = (made : List ℕ) × Makes (Explain file) text made
+CanBeDone Listing how text = IsProgram text
+CanBeDone Assemble how text = (made : List ℕ) × IsAssembled text made
+CanBeDone Disassemble how bytes = (made : List ℕ) × IsOneImage made bytes
+CanBeDone Check how bytes = (made : List ℕ) × IsGoodImage bytes made
+CanBeDone (Explain file) how text =
+    (most : ℕ) × (input : List ℕ) × (made : List ℕ) × IsAcceptedTold file text input most made
+CanBeDone (Trap file) how text =
+    (most : ℕ) × (input : List ℕ) × (made : List ℕ) × IsAcceptedTold file text input most made
 CanBeDone Record how bytes = (image : Image) × IsImageIn form.Image bytes image
 CanBeDone Verify how bytes = (image : Image) × IsImageIn form.Image bytes image
 
@@ -100,6 +105,18 @@ CanBeRun (file ∷ files) = CanBeDone Four file.0 file.1 × CanBeRun files
 abbrev pub WritesImage : List ℕ → ℕ → List ℕ → Type 0
 WritesImage text unroll bytes =
     (image : Image) × DoesText text unroll image × All IsGood image.blocks × ImageBytes image bytes
+
+-- A target text is written of an image that does what the text means, by blocks of at most so many turns of a loop, and
+-- each of whose blocks is good; its comments say what comes from where.
+abbrev pub WritesListing : List ℕ → ℕ → List ℕ → Type 0
+WritesListing text unroll listing =
+    (image : Image) × DoesText text unroll image × All IsGood image.blocks × TargetFile image listing
+
+-- This is told of how the machine's run ends, within so many blocks, of an image that does what the text means: where
+-- it traps, at which block, and behind that what there is to say of each block of the image.
+abbrev pub TellsTrap : List ℕ → List ℕ → ℕ → List ℕ → Type 0
+TellsTrap text input most trap = (image : Image) × DoesText text 1 image × (block_told : ℕ → List ℕ)
+    × (trap ≡ ending_told most block_told (end_of image input most))
 
 -- The work is done with the bytes of the file and of the input, by blocks of at most so many turns of a loop, within
 -- so many blocks or steps, where this is shown: the status and the report tell it.
@@ -122,11 +139,18 @@ DoesWork Four how unroll most show bytes input s report = (others : List (FileFo
 DoesWork Draw how unroll most show bytes input s report =
     (image : Image) × IsImageFor how unroll bytes image × IsBlockDrawn image.blocks (most - 1) s report
 DoesWork Compile how unroll most show text input s report = WritesImage text unroll report × (s ≡ status.Ended)
-DoesWork Assemble how unroll most show text input s report = Makes Assemble text report × (s ≡ status.Ended)
-DoesWork Disassemble how unroll most show bytes input s report = Makes Disassemble bytes report × (s ≡ status.Ended)
-DoesWork Check how unroll most show bytes input s report = Makes Check bytes report × (s ≡ status.Ended)
+DoesWork Listing how unroll most show text input s report = WritesListing text unroll report × (s ≡ status.Ended)
+DoesWork Assemble how unroll most show text input s report =
+    Makes Assemble most text input report × (s ≡ status.Ended)
+DoesWork Disassemble how unroll most show bytes input s report =
+    Makes Disassemble most bytes input report × (s ≡ status.Ended)
+DoesWork Check how unroll most show bytes input s report =
+    Makes Check most bytes input report × (s ≡ status.Ended)
 DoesWork (Explain file) how unroll most show text input s report =
-    Makes (Explain file) text report × (s ≡ status.Ended)
+    Makes (Explain file) most text input report × (s ≡ status.Ended)
+DoesWork (Trap file) how unroll most show text input s report = (told : List ℕ) × (trap : List ℕ)
+    × Makes (Explain file) most text input told × TellsTrap text input most trap × (report ≡ told ++ trap)
+    × (s ≡ status.Ended)
 DoesWork Record how unroll most show bytes input s report = IsRecording most bytes input s report
 DoesWork Verify how unroll most show bytes input s report =
     (trace : List ℕ) × IsTraceVerified bytes input trace s report

@@ -5,7 +5,7 @@ use Rattle.trips_isa.specs.declared.block.Image.{Image}
 use Rattle.trips_isa.specs.declared.run.Stepped.TheVariants.{Went}
 use Rattle.trips_isa.specs.Machine.{runs, start}
 use Rattle.trips_answers.specs.Work.{Work}
-use Rattle.trips_answers.specs.Work.{Run, Evaluate, Compile}
+use Rattle.trips_answers.specs.Work.{Run, Evaluate, Compile, Listing, Trap}
 use Rattle.trips_answers.specs.Work.{Assemble, Disassemble, Check, Draw, Explain, Record, Verify, Save, Four}
 use Rattle.trips_answers.specs.declared.forms.FileForm.{FileForm}
 use Rattle.trips_answers.specs.declared.forms.FileForm.TheVariants as form
@@ -35,10 +35,12 @@ IsRefusedAs Save how bytes report = IsNoProgram how bytes report
 IsRefusedAs Four how bytes report = IsRefusedAt 0 how bytes report
 IsRefusedAs Draw how bytes report = IsNoProgram how bytes report
 IsRefusedAs Compile how text report = IsRefusedByFront text report
+IsRefusedAs Listing how text report = IsRefusedByFront text report
 IsRefusedAs Assemble how text report = IsNoText text report
 IsRefusedAs Disassemble how bytes report = IsNoImage bytes report
 IsRefusedAs Check how bytes report = IsNoImage bytes report ⊎ IsBadImage bytes report
 IsRefusedAs (Explain file) how text report = IsRefusalTold file text report
+IsRefusedAs (Trap file) how text report = IsRefusalTold file text report
 IsRefusedAs Record how bytes report = IsNoImage bytes report ⊎ IsBadImage bytes report
 IsRefusedAs Verify how bytes report = IsNoImage bytes report ⊎ IsBadImage bytes report
 

@@ -43,10 +43,12 @@ abbrev pub placing_of : Option ℕ → Placing
 placing_of None = Greedy
 placing_of (Some number) = Seeded number
 
--- what the predictor's table holds as a run begins, by the word that is said
+-- what the predictor's table holds as a run begins, by the word that is said: nothing is asked of it where nothing is
+-- predicted
 abbrev pub exits_of : PredictorStart → Exits
 exits_of start.Seeded = exits.Seeded
 exits_of start.Zero = exits.Zero
+exits_of start.Unused = exits.Zero
 
 -- for how long parcels are held, by the word that is said
 abbrev pub holds_of : WeatherKind → Holds
@@ -86,10 +88,12 @@ abbrev pub form_of : Command → List ℕ → FileForm
 form_of command.Run file = form_named file
 form_of command.Evaluate file = form.Source
 form_of command.Compile file = form.Source
+form_of command.List file = form.Source
 form_of command.Assemble file = form.Target
 form_of command.Disassemble file = form.Image
 form_of command.Check file = form.Image
 form_of command.Explain file = form_named file
+form_of command.Trap file = form_named file
 form_of command.Record file = form.Image
 form_of command.Verify file = form.Image
 form_of command.Save file = form_named file

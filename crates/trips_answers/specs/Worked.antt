@@ -1,9 +1,11 @@
 -- What is done with the bytes of a file: the status and the report.
-use Rattle.std.specs.Prelude.{◌≡◌, ◌⊎◌, ◌-◌, ℕ, List, [], ◌∷◌, Option, All}
+use Rattle.std.specs.Prelude.{◌≡◌, ◌⊎◌, ◌-◌, ◌++◌, ℕ, List, [], ◌∷◌, Option, All}
 use Rattle.trips_isa.specs.declared.block.Block.{Block}
 use Rattle.trips_isa.specs.declared.block.Image.{Image}
 use Rattle.trips_isa.specs.Machine.{start}
 use Rattle.c_compile.specs.Images.{IsImageOf}
+use Rattle.trips_listing_answers.specs.Listings.{IsListing}
+use Rattle.trips_listing_answers.specs.Traps.{IsTrapTold}
 use Rattle.c_meaning_spec.specs.Laws.{IsInput}
 use Rattle.grid_place.specs.declared.placed.Placing.{Placing}
 use Rattle.block_image.specs.Spelling.{ImageBytes}
@@ -12,7 +14,7 @@ use Rattle.target_file.specs.Files.{TargetFile}
 use Rattle.trips_tools.specs.Tools.{IsAssembled, IsGoodImage, IsOneImage}
 use Rattle.trips_trace_answers.specs.TraceAnswers.{IsRecording, IsRefusedImage, IsVerified}
 use Rattle.trips_answers.specs.Work.{Work}
-use Rattle.trips_answers.specs.Work.{Run, Evaluate, Compile}
+use Rattle.trips_answers.specs.Work.{Run, Evaluate, Compile, Listing, Trap}
 use Rattle.trips_answers.specs.Work.{Assemble, Disassemble, Check, Draw, Explain, Record, Verify, Save, Four}
 use Rattle.trips_answers.specs.declared.forms.FileForm.{FileForm}
 use Rattle.trips_answers.specs.declared.forms.FileForm.TheVariants as form
@@ -75,6 +77,15 @@ abbrev pub IsCompiled : Placing → ℕ → List ℕ → Status → List ℕ →
 IsCompiled placing unroll text s report = (image : Image) × IsImageOf text placing unroll image
     × ImageBytes image report × (s ≡ status.Ended)
 
+-- the image that is compiled from the text is listed
+abbrev pub IsListed : Placing → ℕ → List ℕ → Status → List ℕ → Type 0
+IsListed placing unroll text s report = IsListing text placing unroll report × (s ≡ status.Ended)
+
+-- the accepted text is explained, and it is told where in it the run of its image traps
+abbrev pub IsTrapExplained : List ℕ → List ℕ → List ℕ → ℕ → List ℕ → Type 0
+IsTrapExplained file text input most report = (told : List ℕ) × (trap : List ℕ)
+    × IsAcceptedTold file text input most told × IsTrapTold text input most trap × (report ≡ told ++ trap)
+
 -- The work is done with the bytes of the file and of the input, by these settings: a row for each
 -- command and each form of its file.
 abbrev pub IsWorked : Work → FileForm → Settings → List ℕ → List ℕ → Status → List ℕ → Type 0
@@ -94,10 +105,14 @@ IsWorked Four how settings bytes input s report = (others : List Program) × (im
 IsWorked Draw how settings bytes input s report = (image : Image) × IsImageBy how settings bytes image
     × IsBlockDrawn image.blocks (settings.most - 1) s report
 IsWorked Compile how settings text input s report = IsCompiled settings.placing settings.unroll text s report
+IsWorked Listing how settings text input s report = IsListed settings.placing settings.unroll text s report
 IsWorked Assemble how settings text input s report = IsAssembled text report × (s ≡ status.Ended)
 IsWorked Disassemble how settings bytes input s report = IsOneImage report bytes × (s ≡ status.Ended)
 IsWorked Check how settings bytes input s report = IsGoodImage bytes report × (s ≡ status.Ended)
-IsWorked (Explain file) how settings text input s report = IsAcceptedTold file text report × (s ≡ status.Ended)
+IsWorked (Explain file) how settings text input s report =
+    IsAcceptedTold file text input settings.most report × (s ≡ status.Ended)
+IsWorked (Trap file) how settings text input s report =
+    IsTrapExplained file text input settings.most report × (s ≡ status.Ended)
 IsWorked Record how settings bytes input s report = IsRecording settings.most bytes input s report
 IsWorked Verify how settings bytes input s report = (trace : List ℕ) × IsTraceVerified bytes input trace s report
 

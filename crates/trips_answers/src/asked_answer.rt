@@ -22,7 +22,8 @@ use crate::further::second_read;
 use crate::image_answer::{bytes_answer, target_answer};
 use crate::loading::{MOST_SAVE_BYTES, read_input, read_origin};
 use crate::saved_answer::{bytes_saved, target_saved, text_saved};
-use crate::text_answer::{text_answer, text_compiled};
+use crate::text_answer::{text_answer, text_compiled, text_listed};
+use crate::trap_answer::trap_explained;
 use base::Items;
 use c_tree::MOST_SOURCE_BYTES;
 use std::alloc::{AllocError, Global};
@@ -180,10 +181,14 @@ fn work_done(
         }
         Command::Evaluate => text_evaluated(alloc, bytes, input.as_slice(), settings.most),
         Command::Compile => text_compiled(alloc, bytes, settings.placing, settings.unroll),
+        Command::List => text_listed(alloc, bytes, settings.placing, settings.unroll),
         Command::Assemble => tool_done(alloc, Tool::Assemble, bytes),
         Command::Disassemble => tool_done(alloc, Tool::Disassemble, bytes),
         Command::Check => tool_done(alloc, Tool::Check, bytes),
-        Command::Explain => file_explained(alloc, asked.file, bytes),
+        Command::Explain => {
+            file_explained(alloc, asked.file, bytes, input.as_slice(), settings.most)
+        }
+        Command::Trap => trap_explained(alloc, asked.file, bytes, input, settings.most),
         Command::Record => recorded(alloc, bytes, input, settings.most),
         // done by the caller
         Command::Verify => Err(AllocError),

@@ -59,10 +59,12 @@ pub fn form_of(command: Command, file: &str) -> FileForm
         Command::Run => form_named(file),
         Command::Evaluate => FileForm::Source,
         Command::Compile => FileForm::Source,
+        Command::List => FileForm::Source,
         Command::Assemble => FileForm::Target,
         Command::Disassemble => FileForm::Image,
         Command::Check => FileForm::Image,
         Command::Explain => form_named(file),
+        Command::Trap => form_named(file),
         Command::Record => FileForm::Image,
         Command::Verify => FileForm::Image,
         Command::Save => form_named(file),
@@ -89,6 +91,7 @@ fn exits_of(predictor: PredictorStart) -> Exits
     match predictor {
         PredictorStart::Seeded => Exits::Seeded,
         PredictorStart::Zero => Exits::Zero,
+        PredictorStart::Unused => Exits::Zero,
     }
 }
 

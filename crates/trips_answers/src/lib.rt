@@ -16,6 +16,7 @@ mod law;
 mod loading;
 mod saved_answer;
 mod text_answer;
+mod trap_answer;
 
 pub use asked_answer::answer_to;
 pub use law::reports_tell_evaluations;

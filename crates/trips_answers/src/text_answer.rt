@@ -1,8 +1,8 @@
-//! `run` and `compile` on a text of C.
+//! `run`, `compile` and `compile --listing` on a text of C.
 
 ghost use Rattle.std.specs.Prelude.{◌≡◌, ◌<◌, ℕ, List, length, IfOk};
 ghost use Rattle.block_image.specs.Spelling.{ImageBytes};
-ghost use Rattle.trips_answers.specs.Work.{Run, Compile};
+ghost use Rattle.trips_answers.specs.Work.{Run, Compile, Listing};
 ghost use Rattle.trips_answers.specs.declared.forms.FileForm.{FileForm};
 ghost use Rattle.trips_answers.specs.declared.forms.FileForm.TheVariants as form;
 ghost use Rattle.trips_answers.specs.declared.forms.Settings.{Settings};
@@ -18,6 +18,7 @@ use c_compile::compile_unrolled;
 use grid_place::Placing;
 use std::alloc::{AllocError, Global};
 use trips_eval_answers::stage_refused;
+use trips_listing_answers::listing_answer;
 use trips_requests::{Answer, Status};
 
 // Bytes are an input of a program.
@@ -84,6 +85,28 @@ pub fn text_compiled(
 {
     match compile_unrolled(alloc, source, placing, unroll) {
         Ok(image) => image_written(alloc, &image),
+        Err(refusal) => stage_refused(alloc, source, refusal),
+    }
+}
+
+/// What `compile --listing` answers for a text of C: the target text of its image, with comments.
+pub fn text_listed(
+    alloc: Global,
+    source: &[u8],
+    placing: Placing,
+    unroll: u8,
+) -> Result<Answer, AllocError>
+    requires few { length source.now < 4_294_967_295 }
+    requires turns { 0 < unroll }
+    ensures { IfOk result (λ answer. (form : FileForm) (settings : Settings) (input : List ℕ)
+        → settings.placing ≡ placing → settings.unroll ≡ unroll
+        → IsDone Listing form settings source.now input answer.status answer.report.items) }
+{
+    match listing_answer(alloc, source, placing, unroll) {
+        Ok(report) => Ok(Answer {
+            status: Status::Ended,
+            report,
+        }),
         Err(refusal) => stage_refused(alloc, source, refusal),
     }
 }

@@ -11,7 +11,7 @@ use Rattle.trips_requests.specs.Limits.{most_count, most_drawn, most_recorded, m
 use Rattle.trips_requests.specs.Limits.{number_to, number_within}
 use Rattle.trips_requests.specs.Words.{Text, file_name, value_said, words_read}
 use Rattle.trips_requests.specs.Options.{Options, count_of, is_c_name, options_of, options_said, places_of}
-use Rattle.trips_requests.specs.Options.{later_said, second_said, takes_file}
+use Rattle.trips_requests.specs.Options.{later_said, second_said, takes_file, takes_options}
 use Rattle.trips_requests.specs.Verbs.{verb_named}
 use Rattle.trips_requests.specs.Requests.{Request, asked}
 use Rattle.trips_requests.specs.inside.Requests.{request_seen}
@@ -116,10 +116,10 @@ some_file k name options second third fourth =
     bind _ (predictor_said options.predictor) (λ predictor.
     bind _ (weather_said options.weather) (λ weather.
     last (request_counted k name options second third fourth functions most place unroll events seed predictor weather)
-    (frames_said options.frames) (λ frames. (some, turns.0))))))))))
+    (frames_said predictor options.frames) (λ frames. (some, turns.0))))))))))
 
 some_taken : (k : Verb) (name : Text) (options : Options) → IfSome (request_taken k name options) HasSome
-some_taken k name options = go (takes_file k name)
+some_taken k name options = go (takes_file k name && takes_options k name options)
   where
     go : (b : Bool) → IfSome (cond b (request_of_files k name options) None) HasSome
     go true = bind _ (second_said k options.second) (λ second. bind _ (later_said k options.third)

@@ -84,7 +84,7 @@ pub no_image_is_unrolled : asked (codes "run" ∷ codes "b.img" ∷ codes "--unr
 unfolding verb_named
 no_image_is_unrolled = refl
 
--- a file is explained, without options: C, an image or a target text
+-- a file is explained: C, an image or a target text
 pub explained_is : asked (codes "explain" ∷ codes "a.c" ∷ [])
     ≡ Some (record plain { command = command.Explain })
 unfolding verb_named
@@ -95,9 +95,9 @@ pub image_is_explained : asked (codes "explain" ∷ codes "b.img" ∷ [])
 unfolding verb_named
 image_is_explained = refl
 
-pub explained_without_input : asked (codes "explain" ∷ codes "a.c" ∷ codes "--input=b" ∷ []) ≡ None
+pub explained_of_a_seed : asked (codes "explain" ∷ codes "a.c" ∷ codes "--seed=1" ∷ []) ≡ None
 unfolding verb_named
-explained_without_input = refl
+explained_of_a_seed = refl
 
 -- a run is recorded of an image, in at most 100,000 blocks
 pub recorded_is : asked (codes "record" ∷ codes "b.img" ∷ [])
@@ -403,3 +403,52 @@ pub four_of_two_frames : asked (codes "four" ∷ codes "a" ∷ codes "b" ∷ cod
     ∷ codes "--frames=2" ∷ []) ≡ None
 unfolding verb_named
 four_of_two_frames = refl
+
+-- nothing is predicted where one frame alone may be in flight
+pub nothing_predicted : asked (codes "run" ∷ codes "a.c" ∷ codes "--predictor=none" ∷ [])
+    ≡ Some (record plain { predictor = exits.Unused; frames = 1 })
+unfolding verb_named predictor_named
+nothing_predicted = refl
+
+pub nothing_predicted_of_two : asked (codes "run" ∷ codes "a.c" ∷ codes "--predictor=none" ∷ codes "--frames=2" ∷ [])
+    ≡ None
+unfolding verb_named predictor_named
+nothing_predicted_of_two = refl
+
+-- what is compiled may be listed, and nothing else
+pub listed_is : asked (codes "compile" ∷ codes "--listing" ∷ codes "a.c" ∷ codes "--unroll=2" ∷ [])
+    ≡ Some (record plain { command = command.List; unroll = 2 })
+unfolding verb_named
+listed_is = refl
+
+pub compiled_is : asked (codes "compile" ∷ codes "a.c" ∷ []) ≡ Some (record plain { command = command.Compile })
+unfolding verb_named
+compiled_is = refl
+
+pub drawn_unlisted : asked (codes "draw" ∷ codes "a.c" ∷ codes "1" ∷ codes "--listing" ∷ []) ≡ None
+unfolding verb_named
+drawn_unlisted = refl
+
+-- an accepted text is evaluated as it is explained, on an input and within some steps; of what is no C nothing is
+pub evaluated_too : asked (codes "explain" ∷ codes "a.c" ∷ codes "--input=in" ∷ codes "--steps" ∷ codes "9" ∷ [])
+    ≡ Some (record plain { command = command.Explain; input = Some (codes "in"); most = 9 })
+unfolding verb_named
+evaluated_too = refl
+
+pub no_steps_of_an_image : asked (codes "explain" ∷ codes "a.img" ∷ codes "--steps=9" ∷ []) ≡ None
+unfolding verb_named
+no_steps_of_an_image = refl
+
+pub no_input_of_a_target : asked (codes "explain" ∷ codes "--input" ∷ codes "in" ∷ codes "a.tasl" ∷ []) ≡ None
+unfolding verb_named
+no_input_of_a_target = refl
+
+-- and it is told where in a text its run traps
+pub trap_is_told : asked (codes "explain" ∷ codes "--trap" ∷ codes "a.c" ∷ [])
+    ≡ Some (record plain { command = command.Trap })
+unfolding verb_named
+trap_is_told = refl
+
+pub no_trap_of_an_image : asked (codes "explain" ∷ codes "--trap" ∷ codes "a.img" ∷ []) ≡ None
+unfolding verb_named
+no_trap_of_an_image = refl

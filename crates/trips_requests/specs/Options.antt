@@ -1,6 +1,6 @@
 -- The options of each command, and what words say of them (README.md of this crate).
-use Rattle.std.specs.Prelude.{ℕ, Bool, false, true, not, ◌&&◌, List, [], ◌∷◌, codes, nat_eq, Option, None, Some}
-use Rattle.std.specs.Prelude.{option_map}
+use Rattle.std.specs.Prelude.{ℕ, Bool, false, true, not, ◌&&◌, ◌||◌, List, [], ◌∷◌, codes, nat_eq, Option, None, Some}
+use Rattle.std.specs.Prelude.{is_some, option_map}
 use Rattle.std.specs.List.{ends_with}
 use Rattle.std.specs.Str.{bytes_eq}
 use Rattle.trips_requests.specs.declared.commands.Verb.{Verb}
@@ -25,9 +25,17 @@ bench_options = valued (codes "blocks") ∷ valued (codes "place") ∷ valued (c
 abbrev pub eval_options : List Named
 eval_options = valued (codes "input") ∷ valued (codes "steps") ∷ []
 
--- those of `compile` and `draw`
+-- those of `explain`
+abbrev pub explain_options : List Named
+explain_options = valued (codes "input") ∷ valued (codes "steps") ∷ flag (codes "trap") ∷ []
+
+-- those of `compile`
 abbrev pub compile_options : List Named
-compile_options = valued (codes "place") ∷ valued (codes "unroll") ∷ []
+compile_options = valued (codes "place") ∷ valued (codes "unroll") ∷ flag (codes "listing") ∷ []
+
+-- those of `draw`
+abbrev pub draw_options : List Named
+draw_options = valued (codes "place") ∷ valued (codes "unroll") ∷ []
 
 -- those of `record`
 abbrev pub record_options : List Named
@@ -62,7 +70,8 @@ options_of verb.Verify = verify_options
 options_of verb.Save = save_options
 options_of verb.Resume = resume_options
 options_of verb.Four = four_options
-options_of verb.Draw = compile_options
+options_of verb.Draw = draw_options
+options_of verb.Explain = explain_options
 options_of other = []
 
 -- the places of a command for words that stand alone: each has its file, or its number of functions; `verify` has the
@@ -138,6 +147,10 @@ pub record Options : Type 0 where
   pub stats : Bool
   -- the cycles whose events are shown
   pub events : Option Text
+  -- whether the compiled image is listed
+  pub listing : Bool
+  -- whether it is told where in a text its run traps
+  pub trap : Bool
 
 -- a flag is said, by its value
 abbrev pub is_on : Option Text → Bool
@@ -163,4 +176,12 @@ options_said k said = record {
   cycles = is_on (value_said (codes "cycles") said);
   stats = is_on (value_said (codes "stats") said);
   events = value_said (codes "events") said;
+  listing = is_on (value_said (codes "listing") said);
+  trap = is_on (value_said (codes "trap") said);
 }
+
+-- the command takes these options of the file: `explain` evaluates and runs C alone, on an input and within some steps
+abbrev pub takes_options : Verb → Text → Options → Bool
+takes_options verb.Explain file options =
+    is_c_name file || not (is_some options.input) && not (is_some options.number) && not options.trap
+takes_options other file options = true

@@ -14,8 +14,8 @@ use Rattle.trips_requests.specs.declared.commands.Verb.TheVariants as verb
 use Rattle.trips_requests.specs.Limits.{most_cycle, most_drawn, most_frames, most_functions, most_seed, most_turns}
 use Rattle.trips_requests.specs.Limits.{number_to, number_within}
 use Rattle.trips_requests.specs.Options.{Options, count_of, is_c_name, later_said, options_of, options_said}
-use Rattle.trips_requests.specs.Options.{places_of, second_said, takes_file}
-use Rattle.trips_requests.specs.Verbs.{command_of, verb_named}
+use Rattle.trips_requests.specs.Options.{places_of, second_said, takes_file, takes_options}
+use Rattle.trips_requests.specs.Verbs.{command_said, verb_named}
 use Rattle.trips_requests.specs.Words.{Text, Said, file_name, value_said, words_read}
 
 -- What is asked for: a command, its file and the others if it has more, or how many functions the benchmark's text
@@ -83,7 +83,8 @@ seed_said (Some word) = number_within most_seed word
 -- what a word says of the predictor's table
 unfoldable pub predictor_named : Text → Option PredictorStart
 predictor_named word = if bytes_eq word (codes "seeded") then Some exits.Seeded
-    else if bytes_eq word (codes "zero") then Some exits.Zero else None
+    else if bytes_eq word (codes "zero") then Some exits.Zero
+    else if bytes_eq word (codes "none") then Some exits.Unused else None
 
 -- what the predictor's table holds as a run begins: the seed's exits where nothing is said
 abbrev pub predictor_said : Option Text → Option PredictorStart
@@ -101,10 +102,15 @@ abbrev pub weather_said : Option Text → Option WeatherKind
 weather_said None = Some holds.Seeded
 weather_said (Some word) = weather_named word
 
--- how many frames may be in flight: all where nothing is said
-abbrev pub frames_said : Option Text → Option ℕ
-frames_said None = Some most_frames
-frames_said (Some word) = number_to most_frames word
+-- how many frames may be in flight at most: one where nothing is predicted
+abbrev pub frames_of : PredictorStart → ℕ
+frames_of exits.Unused = 1
+frames_of other = most_frames
+
+-- how many frames may be in flight: all that may be where nothing is said
+abbrev pub frames_said : PredictorStart → Option Text → Option ℕ
+frames_said predictor None = Some (frames_of predictor)
+frames_said predictor (Some word) = number_to (frames_of predictor) word
 
 -- the cycles from one to another, of which the first is 1 at least and the last no cycle before it
 abbrev pub cycles_from : ℕ → ℕ → Option Cycles
@@ -132,7 +138,7 @@ abbrev pub request_counted : Verb → Text → Options → Option Text → Optio
     → Option ℕ → ℕ → Option Cycles → ℕ → PredictorStart → WeatherKind → ℕ → Request
 request_counted k name options second third fourth functions most place unroll events seed predictor weather frames =
     record {
-      command = command_of k;
+      command = command_said k options.listing options.trap;
       file = name;
       second = second;
       third = third;
@@ -161,7 +167,7 @@ request_of_file k name options second third fourth =
     option_and_then (λ events. option_and_then (λ seed. option_and_then (λ predictor. option_and_then (λ weather.
     option_map
     (request_counted k name options second third fourth functions most place unroll events seed predictor weather)
-    (frames_said options.frames)) (weather_said options.weather)) (predictor_said options.predictor))
+    (frames_said predictor options.frames)) (weather_said options.weather)) (predictor_said options.predictor))
     (seed_said options.seed))
     (events_said options.stats options.events))
     (unroll_said name options.unroll)) (place_said name options.place)) (most_said k options.number))
@@ -174,9 +180,10 @@ request_of_files k name options =
     (request_of_file k name options second third) (later_said k options.fourth)) (later_said k options.third))
     (second_said k options.second)
 
--- the request of a command, of its file, which it takes, of those behind it, and of its options
+-- the request of a command, of its file, which it takes, of those behind it, and of its options, which it takes too
 abbrev pub request_taken : Verb → Text → Options → Option Request
-request_taken k name options = if takes_file k name then request_of_files k name options else None
+request_taken k name options =
+    if takes_file k name && takes_options k name options then request_of_files k name options else None
 
 -- the request of a command, of its file, which it has, and of its options
 abbrev pub request_with : Verb → Option Text → Options → Option Request

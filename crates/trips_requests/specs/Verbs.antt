@@ -1,5 +1,5 @@
 -- The commands by their names (README.md of this crate).
-use Rattle.std.specs.Prelude.{if◌then◌else◌, codes, Option, None, Some}
+use Rattle.std.specs.Prelude.{if◌then◌else◌, codes, Bool, true, Option, None, Some}
 use Rattle.std.specs.Str.{bytes_eq}
 use Rattle.trips_requests.specs.declared.commands.Command.{Command}
 use Rattle.trips_requests.specs.declared.commands.Command.TheVariants as command
@@ -41,3 +41,10 @@ command_of verb.Save = command.Save
 command_of verb.Resume = command.Resume
 command_of verb.Four = command.Four
 command_of verb.Draw = command.Draw
+
+-- what is done where a listing is asked for, or not, and where a trap is asked for, or not: the one is of what is
+-- compiled, the other of what is explained
+abbrev pub command_said : Verb → (listing trap : Bool) → Command
+command_said verb.Compile true trap = command.List
+command_said verb.Explain listing true = command.Trap
+command_said verb listing trap = command_of verb

@@ -1,24 +1,24 @@
 //! The request of a command, of its file and of what was found of its options.
 
 ghost use Rattle.std.specs.Prelude.{◌≡◌, ◌+◌, Some, option_map, option_copied};
-ghost use Rattle.trips_requests.specs.Limits.{most_cycle, most_drawn, number_within};
-ghost use Rattle.trips_requests.specs.Options.{count_of, counted, is_c_name, is_on, later_said, second_said};
-ghost use Rattle.trips_requests.specs.Options.{takes_file};
+ghost use Rattle.trips_requests.specs.Limits.{most_drawn, number_within};
+ghost use Rattle.trips_requests.specs.Options.{count_of, counted, is_on, later_said, second_said};
+ghost use Rattle.trips_requests.specs.Options.{takes_file, takes_options};
 ghost use Rattle.trips_requests.specs.inside.Options.{options_seen};
-ghost use Rattle.trips_requests.specs.Verbs.{command_of, verb_named};
-ghost use Rattle.trips_requests.specs.Requests.{most_said};
-ghost use Rattle.trips_requests.specs.Requests.{cycles_from, cycles_said, events_said, frames_said, functions_said};
-ghost use Rattle.trips_requests.specs.Requests.{place_said, predictor_named, predictor_said, seed_said, unroll_said};
-ghost use Rattle.trips_requests.specs.Requests.{weather_named, weather_said};
+ghost use Rattle.trips_requests.specs.Verbs.{command_of, command_said, verb_named};
+ghost use Rattle.trips_requests.specs.Requests.{functions_said, most_said};
 ghost use Rattle.trips_requests.specs.Requests.{request_of_file, request_of_files, request_taken, request_with};
 ghost use Rattle.trips_requests.specs.inside.Requests.{request_seen};
 
 use crate::commands::{
-    Asked, Command, Cycles, DEFAULT_COUNT, DEFAULT_RECORDED, MOST_COUNT, MOST_CYCLE, MOST_DRAWN,
-    MOST_FRAMES, MOST_FUNCTIONS, MOST_RECORDED, MOST_SEED, MOST_TURNS, PredictorStart, Verb,
-    WeatherKind,
+    Asked, Command, DEFAULT_COUNT, DEFAULT_RECORDED, MOST_COUNT, MOST_DRAWN, MOST_FUNCTIONS,
+    MOST_RECORDED, Verb,
 };
 use crate::number::{number, number_within};
+use crate::values::{
+    events_said, frames_said, is_c_name, place_said, predictor_said, seed_said, unroll_said,
+    weather_said,
+};
 
 /// What was found of a command's options and of its places behind the first: each value if it is said, and whether a
 /// flag is.
@@ -46,6 +46,10 @@ pub struct FoundOptions<'a> {
     pub stats: bool,
     /// the cycles whose events are shown
     pub events: Option<&'a str>,
+    /// whether the compiled image is listed
+    pub listing: bool,
+    /// whether it is told where in a text its run traps
+    pub trap: bool,
 }
 
 /// What a name stands for.
@@ -105,6 +109,17 @@ fn command_of(verb: Verb) -> Command
         Verb::Resume => Command::Resume,
         Verb::Four => Command::Four,
         Verb::Draw => Command::Draw,
+    }
+}
+
+// What is done where a listing is asked for, or not, and where a trap is asked for, or not.
+fn command_said(verb: Verb, listing: bool, trap: bool) -> Command
+    ensures { result ≡ command_said verb listing trap }
+{
+    match verb {
+        Verb::Compile if listing => Command::List,
+        Verb::Explain if trap => Command::Trap,
+        _ => command_of(verb),
     }
 }
 
@@ -212,14 +227,6 @@ pub fn is_on(value: Option<&str>) -> bool
     }
 }
 
-// Whether the file is C, by the ending of its name.
-fn is_c_name(file: &str) -> bool
-    ensures { result ≡ is_c_name file.now }
-{
-    let bytes = file.as_bytes();
-    !bytes.ends_with(b".img") && !bytes.ends_with(b".tasl")
-}
-
 // Whether the name of the file is one that the command takes.
 fn takes_file(command: Verb, file: &str) -> bool
     ensures { result ≡ takes_file command file.now }
@@ -230,150 +237,16 @@ fn takes_file(command: Verb, file: &str) -> bool
     }
 }
 
-// The number by which compiled blocks are placed, if one is said: of C alone.
-fn place_said(file: &str, word: Option<&str>) -> Option<Option<u64>>
-    ensures { result ≡ place_said file.now (option_copied word.entry) }
+// Whether the command takes these options of the file.
+fn takes_options(command: Verb, file: &str, options: FoundOptions<'_>) -> bool
+    ensures { result ≡ takes_options command file.now (options_seen options.entry) }
 {
-    match word {
-        None => Some(None),
-        Some(word) => {
-            if !is_c_name(file) {
-                return None;
-            }
-            let place = number_within(word.as_bytes(), MOST_SEED)?;
-            Some(Some(place))
+    match command {
+        Verb::Explain => {
+            is_c_name(file)
+                || (options.input.is_none() && options.number.is_none() && !options.trap)
         }
-    }
-}
-
-// How many turns of a loop a compiled block may hold, and 1 where none is said: of C alone.
-fn unroll_said(file: &str, word: Option<&str>) -> Option<u8>
-    ensures { result ≡ unroll_said file.now (option_copied word.entry) }
-{
-    match word {
-        None => Some(1),
-        Some(word) => {
-            if !is_c_name(file) {
-                return None;
-            }
-            let turns = number(word.as_bytes(), MOST_TURNS)?;
-            Some(turns as u8)
-        }
-    }
-}
-
-// The seed that a word says, and 0 where there is none.
-fn seed_said(word: Option<&str>) -> Option<u64>
-    ensures { result ≡ seed_said (option_copied word.entry) }
-{
-    match word {
-        None => Some(0),
-        Some(word) => number_within(word.as_bytes(), MOST_SEED),
-    }
-}
-
-// What a word says of the predictor's table.
-#[tactic(auto, unfolding(crate::specs::Requests::predictor_named))]
-fn predictor_named(word: &str) -> Option<PredictorStart>
-    ensures { result ≡ predictor_named word.now }
-{
-    if word == "seeded" {
-        Some(PredictorStart::Seeded)
-    } else if word == "zero" {
-        Some(PredictorStart::Zero)
-    } else {
-        None
-    }
-}
-
-// What a word says of the weather.
-#[tactic(auto, unfolding(crate::specs::Requests::weather_named))]
-fn weather_named(word: &str) -> Option<WeatherKind>
-    ensures { result ≡ weather_named word.now }
-{
-    if word == "seeded" {
-        Some(WeatherKind::Seeded)
-    } else if word == "calm" {
-        Some(WeatherKind::Calm)
-    } else if word == "worst" {
-        Some(WeatherKind::Worst)
-    } else {
-        None
-    }
-}
-
-// What the predictor's table holds as a run begins, by the word that is said, and the seed's exits where none is.
-fn predictor_said(word: Option<&str>) -> Option<PredictorStart>
-    ensures { result ≡ predictor_said (option_copied word.entry) }
-{
-    match word {
-        None => Some(PredictorStart::Seeded),
-        Some(word) => predictor_named(word),
-    }
-}
-
-// For how long parcels are held, by the word that is said, and as the seed draws it where none is.
-fn weather_said(word: Option<&str>) -> Option<WeatherKind>
-    ensures { result ≡ weather_said (option_copied word.entry) }
-{
-    match word {
-        None => Some(WeatherKind::Seeded),
-        Some(word) => weather_named(word),
-    }
-}
-
-// How many frames may be in flight, and all where nothing is said.
-fn frames_said(word: Option<&str>) -> Option<u8>
-    ensures { result ≡ frames_said (option_copied word.entry) }
-{
-    match word {
-        None => Some(8),
-        Some(word) => {
-            let frames = number(word.as_bytes(), MOST_FRAMES)?;
-            Some(frames as u8)
-        }
-    }
-}
-
-// The cycles from one to another, where there are some.
-fn cycles_from(first: u64, last: u64) -> Option<Cycles>
-    ensures { result ≡ cycles_from first last }
-{
-    if 1 <= first && first <= last {
-        Some(Cycles { first, last })
-    } else {
-        None
-    }
-}
-
-// The number of a cycle that a word says.
-fn cycle_said(word: &str) -> Option<u64>
-    ensures { result ≡ number_within most_cycle word.now }
-{
-    number_within(word.as_bytes(), MOST_CYCLE)
-}
-
-// The cycles that a word says: two numbers, and between them a dash.
-fn cycles_said(word: &str) -> Option<Cycles>
-    ensures { result ≡ cycles_said word.now }
-{
-    let (first, last) = word.split_once('-')?;
-    cycles_from(cycle_said(first)?, cycle_said(last)?)
-}
-
-// The cycles whose events are shown, if any are: of no request that shows the statistics.
-fn events_said(stats: bool, word: Option<&str>) -> Option<Option<Cycles>>
-    ensures { result ≡ events_said stats (option_copied word.entry) }
-{
-    match word {
-        None => Some(None),
-        Some(word) => {
-            if stats {
-                return None;
-            }
-            let cycles = cycles_said(word)?;
-            Some(Some(cycles))
-        }
+        _ => true,
     }
 }
 
@@ -398,9 +271,9 @@ fn request_of_file<'a>(
     let seed = seed_said(options.seed)?;
     let predictor = predictor_said(options.predictor)?;
     let weather = weather_said(options.weather)?;
-    let frames = frames_said(options.frames)?;
+    let frames = frames_said(predictor, options.frames)?;
     Some(Asked {
-        command: command_of(command),
+        command: command_said(command, options.listing, options.trap),
         file,
         second,
         third,
@@ -437,12 +310,12 @@ fn request_of_files<'a>(
     request_of_file(command, file, options, second, third, fourth)
 }
 
-// The request of a command, of its file, which it takes, of those behind it, and of its options.
+// The request of a command, of its file, which it takes, of those behind it, and of its options, which it takes too.
 fn request_taken<'a>(command: Verb, file: &'a str, options: FoundOptions<'a>) -> Option<Asked<'a>>
     ensures { option_map request_seen result
         ≡ request_taken command file.now (options_seen options.entry) }
 {
-    if !takes_file(command, file) {
+    if !takes_file(command, file) || !takes_options(command, file, options) {
         return None;
     }
     request_of_files(command, file, options)

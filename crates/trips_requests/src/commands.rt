@@ -9,10 +9,14 @@ pub enum Command {
     Run,
     Evaluate,
     Compile,
+    /// compiles C, and writes target text in which comments say what comes from where
+    List,
     Assemble,
     Disassemble,
     Check,
     Explain,
+    /// explains C, and tells from where in it the block comes at which its run traps
+    Trap,
     Record,
     Verify,
     Save,
@@ -108,6 +112,8 @@ pub enum PredictorStart {
     Seeded,
     /// the exit 0 everywhere
     Zero,
+    /// nothing is asked of it: a block is fetched once the one before has committed
+    Unused,
 }
 
 /// For how long parcels are held in a run.

@@ -15,6 +15,7 @@ mod number;
 mod results;
 mod status;
 mod texts;
+mod values;
 
 pub use answer::{Answer, no_request, too_large, unread};
 pub use asking::{FoundOptions, counted, is_on, request_with, verb_named};

@@ -11,6 +11,7 @@ ghost use Rattle.c_front.specs.Fronts.{IsAccepted};
 ghost use Rattle.c_meaning_spec.specs.declared.signal.Ending.TheVariants.{Deep};
 ghost use Rattle.c_meaning_spec.specs.Eval.{Stopped, Done, eval};
 ghost use Rattle.c_compile.specs.Images.{IsImageOf};
+ghost use Rattle.trips_listing_answers.specs.Listings.{IsListing};
 ghost use Rattle.grid_meaning.specs.Meant.{EndsAsMeant};
 ghost use Rattle.block_image.specs.Spelling.{ImageBytes};
 ghost use Rattle.block_check.specs.Faults.{IsGood};
@@ -19,7 +20,7 @@ ghost use Rattle.trips_outside.specs.Outside.{Rose, Appended};
 ghost use Rattle.target_file.specs.Files.{TargetFile};
 ghost use Rattle.trips_report.specs.declared.show.Show.{Show};
 ghost use Rattle.trips_answers.specs.Work.{Work};
-ghost use Rattle.trips_answers.specs.Work.{Run, Compile, Evaluate, Four};
+ghost use Rattle.trips_answers.specs.Work.{Run, Compile, Listing, Evaluate, Four};
 ghost use Rattle.trips_four_answers.specs.Runs.{IsFourRun};
 ghost use Rattle.trips_requests.specs.Table.{IsOneOf, Wrote};
 ghost use Rattle.trips_answers.specs.declared.forms.FileForm.{FileForm};
@@ -165,6 +166,15 @@ pub fn answer_words<F: Files, K: Sink>(
         → (image : Image) × IsImageOf text call.asks.q.placing call.asks.q.unroll image × (bytes : List ℕ)
         × ImageBytes image bytes
         × (result ≡ Status.Ended) × Appended (K.written sink.old) (K.written sink.new) bytes }
+
+    // Where its listing is asked for, it is that of such an image: the target text of the image, with comments.
+    ensures listed { (how : FileForm) (most : ℕ) (show : Show) (text input : List ℕ)
+        (program : TypedProgram)
+        → (call : IsServed (request_of words.now) (F.held files.old) Listing how most show text input
+        (F.faults files.old) (F.faults files.new) (K.faults sink.old) (K.faults sink.new) result)
+        → IsAccepted text program
+        → (listing : List ℕ) × IsListing text call.asks.q.placing call.asks.q.unroll listing
+        × (result ≡ Status.Ended) × Appended (K.written sink.old) (K.written sink.new) listing }
 
     // The images that are made of four files run on one grid: each as it runs alone, in exactly as many eager cycles
     // as are counted, from the stated start of all four of the request's seed.

@@ -1,4 +1,4 @@
-ghost use Rattle.std.specs.Prelude.{◌≡◌, ◌≢◌, ◌≤◌, ◌+◌, ◌-◌, ◌*◌, ◌∷◌, [], List, ℕ, ℤ, Some};
+ghost use Rattle.std.specs.Prelude.{◌≡◌, ◌≢◌, ◌≤◌, ◌+◌, ◌-◌, ◌*◌, ◌∷◌, ◌++◌, [], List, ℕ, ℤ, Some};
 ghost use Rattle.trips_isa.specs.declared.block.Image.{Image};
 ghost use Rattle.trips_isa.specs.Machine.{State};
 ghost use Rattle.c_tree.specs.declared.typed.TypedProgram.{TypedProgram};
@@ -9,7 +9,7 @@ ghost use Rattle.c_compile.specs.Meant.{DoesText};
 ghost use Rattle.trips_outside.specs.Outside.{Appended, Rose, Undisturbed};
 ghost use Rattle.trips_report.specs.declared.show.Show.{Show};
 ghost use Rattle.trips_answers.specs.Work.{Work};
-ghost use Rattle.trips_answers.specs.Work.{Run, Evaluate, Compile, Draw, Record, Verify, Save, Four};
+ghost use Rattle.trips_answers.specs.Work.{Run, Evaluate, Compile, Explain, Listing, Trap, Draw, Record, Verify, Save, Four};
 ghost use Rattle.trips_requests.specs.Table.{IsOneOf, IsWritten, Reports, Wrote};
 ghost use Rattle.trips_requests.specs.Texts.{too_large_text};
 ghost use Rattle.trips_eval_answers.specs.Evaluation.{eval_status, outcome_of, eval_report};
@@ -26,6 +26,7 @@ ghost use Rattle.trips_requests.specs.Results.{result_status};
 ghost use Rattle.trips_answers.specs.Asks.{IsServed, ended_report, nothing_shown};
 ghost use Rattle.trips_answers.specs.Report.{TellsRun, full_report};
 ghost use Rattle.trips_answers.specs.Done.{AreImagesFor, CanBeRun, IsImageIn, Makes, WritesImage};
+ghost use Rattle.trips_answers.specs.Done.{TellsTrap, WritesListing};
 ghost use Rattle.trips_answers.specs.Fours.{AreTold, Program, further_of};
 ghost use Rattle.trips_answers.specs.Causes.{EndsWork, HasCauses, IsTooLarge, MayAnswer, RefusesUnfit};
 ghost use Rattle.trips_answers.specs.Evaluated.{ResultTells, RunEndsAs};
@@ -82,7 +83,7 @@ pub fn trips_run<F: Files, K: Sink>(
         → IsServed (request_of words.now) (F.held files.old) Evaluate how most nothing_shown text input
         (F.faults files.old) (F.faults files.new) (K.faults sink.old) (K.faults sink.new) result
         → IsAccepted text program → Reports result (K.written sink.old) (K.written sink.new)
-        (eval_status (outcome_of program input most)) (eval_report (outcome_of program input most)) }
+        (eval_status (outcome_of program input most)) (eval_report text (outcome_of program input most)) }
 
     // An accepted program is compiled: the bytes of an image are written that does what the text means.
     ensures compiled { (how : FileForm) (most : ℕ) (show : Show) (text input : List ℕ) (program : TypedProgram)
@@ -91,12 +92,28 @@ pub fn trips_run<F: Files, K: Sink>(
         → IsAccepted text program → (bytes : List ℕ) × WritesImage text call.asks.q.unroll bytes
         × Reports result (K.written sink.old) (K.written sink.new) Status.Ended bytes }
 
-    // What `asm`, `dis` or `check` makes of its file, or `explain` tells of an accepted text, is written, and nothing
-    // else.
+    // Its listing is a target text of such an image, with comments.
+    ensures listed { (how : FileForm) (most : ℕ) (show : Show) (text input : List ℕ) (program : TypedProgram)
+        → (call : IsServed (request_of words.now) (F.held files.old) Listing how most show text input
+        (F.faults files.old) (F.faults files.new) (K.faults sink.old) (K.faults sink.new) result)
+        → IsAccepted text program → (listing : List ℕ) × WritesListing text call.asks.q.unroll listing
+        × Reports result (K.written sink.old) (K.written sink.new) Status.Ended listing }
+
+    // What `asm`, `dis` or `check` makes of its file, or `explain` tells of an accepted file, of a text of C with its
+    // evaluation on the input within so many steps, is written, and nothing else.
     ensures made { (work : Work) (how : FileForm) (most : ℕ) (show : Show) (bytes input made : List ℕ)
         → IsServed (request_of words.now) (F.held files.old) work how most show bytes input
         (F.faults files.old) (F.faults files.new) (K.faults sink.old) (K.faults sink.new) result
-        → Makes work bytes made → Reports result (K.written sink.old) (K.written sink.new) Status.Ended made }
+        → Makes work most bytes input made
+        → Reports result (K.written sink.old) (K.written sink.new) Status.Ended made }
+
+    // Where a trap is asked for, how the machine's run ends of an image that does what the text means is told behind
+    // what `explain` tells: the block at which it traps, and what there is to say of that.
+    ensures trapped { (file : List ℕ) (how : FileForm) (most : ℕ) (show : Show) (text input told : List ℕ)
+        → IsServed (request_of words.now) (F.held files.old) (Trap file) how most show text input
+        (F.faults files.old) (F.faults files.new) (K.faults sink.old) (K.faults sink.new) result
+        → Makes (Explain file) most text input told → (trap : List ℕ) × TellsTrap text input most trap
+        × Reports result (K.written sink.old) (K.written sink.new) Status.Ended (told ++ trap) }
 
     // What `record` writes of an image of good blocks is the longest trace of the machine's run within so many
     // blocks, and nothing else; the status tells how that run ends.

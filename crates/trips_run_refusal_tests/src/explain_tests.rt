@@ -12,12 +12,12 @@ const TOLD: &[Row] = &[
     (
         "int main(void)\n{\n    return 7;\n}\n",
         Status::Ended,
-        "a.c: accepted, functions 1, lines 4, tokens 10\n",
+        "a.c: accepted, functions 1, lines 4, tokens 10\nresult 7 in 4 steps\noutput: 0 bytes\n",
     ),
     (
         "int f(void) { return 1; }\nint main(void) { return f(); }",
         Status::Ended,
-        "a.c: accepted, functions 2, lines 2, tokens 22\n",
+        "a.c: accepted, functions 2, lines 2, tokens 22\nresult 1 in 8 steps\noutput: 0 bytes\n",
     ),
     (
         "int main(void) {\n\treturn @;\n}\n",
@@ -55,6 +55,43 @@ fn assert_told(rt: &impl Abort, alloc: Global, rows: &[Row]) -> Result<(), Alloc
 #[test]
 fn explains_texts(rt: HostRuntime) -> Result<(), Fail> {
     assert_told(&rt, rt.alloc(), TOLD)?;
+    Ok(())
+}
+
+/// Reads a byte, and divides 60 by what is left of it behind 48.
+const READS: &str =
+    "#include <stdio.h>\nint main(void) {\n    int c = getchar();\n    putchar(c);\n    return 60 / (c - 48);\n}\n";
+
+#[test]
+fn evaluates_an_accepted_text(rt: HostRuntime) -> Result<(), Fail> {
+    let alloc = rt.alloc();
+    let held = [
+        ("a.c", READS.as_bytes()),
+        ("two", b"2".as_slice()),
+        ("zero", b"0".as_slice()),
+    ];
+    let (status, told) = answer_of(alloc, &["explain", "a.c", "--input", "two"], &held)?;
+    assert_eq!(rt; status, Status::Ended);
+    assert!(rt;
+        told.as_slice()
+            .ends_with(b"\nresult 30 in 15 steps\noutput: 1 bytes\n2")
+    );
+    let (status, told) = answer_of(alloc, &["explain", "a.c", "--input", "zero"], &held)?;
+    assert_eq!(rt; status, Status::Ended);
+    assert!(rt;
+        told.as_slice().ends_with(
+            b"a.c:5:15: undefined: the quotient 60 / 0 divides by a zero of type \
+        int (C17 6.5.5p5)\n    return 60 / (c - 48);\n              ^\noutput: 1 bytes\n0"
+        )
+    );
+    let (status, told) = answer_of(alloc, &["explain", "a.c", "--steps", "4"], &held)?;
+    assert_eq!(rt; status, Status::Ended);
+    assert!(rt;
+        told.as_slice().ends_with(
+            b"\nnot done after 4 steps, at a.c:3:13\n    int c = getchar();\n\
+        \x20           ^\noutput: 0 bytes\n"
+        )
+    );
     Ok(())
 }
 

@@ -43,7 +43,7 @@ const ROWS: &[Row] = &[
         &["eval", "a.c"],
         DIVISION,
         10,
-        "output 0\n\nundefined: the quotient 7 / 0 ",
+        "output 0\n\nundefined at 1:41: the quotient 7 / 0 ",
     ),
 ];
 

@@ -79,7 +79,7 @@ pub(crate) fn assert_undefined_text(
 ) -> Result<(), AllocError> {
     let (status, written) = answer_of(alloc, &["eval", "a.c"], &[("a.c", text.as_bytes())])?;
     assert_eq!(rt; status, Status::Undefined, "{text}");
-    assert!(rt; written.starts_with(b"output 0\n\nundefined: "), "{text}");
+    assert!(rt; written.starts_with(b"output 0\n\nundefined"), "{text}");
     Ok(())
 }
 

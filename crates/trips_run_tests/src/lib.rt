@@ -10,6 +10,8 @@ mod block_tests;
 #[cfg(test)]
 mod eval_tests;
 #[cfg(test)]
+mod json_tests;
+#[cfg(test)]
 mod larger_rows;
 #[cfg(test)]
 mod programs;

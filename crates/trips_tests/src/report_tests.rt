@@ -37,6 +37,9 @@ const MEASURED: Taken = Taken {
         ends: 18_446_744_073_709_551_615,
         predictions: 16,
         right: 10,
+        parcels: 17,
+        links: 18,
+        waits: 19,
         in_flight: [1, 2, 3, 4, 5, 6, 7, 8, 4],
         stations: [
             31, 32, 33, 34, 35, 36, 37, 38, 39, 40, 41, 42, 43, 44, 45, 46,
@@ -125,6 +128,9 @@ flushed_by_exit 1
 flushed_at_end 18446744073709551615
 predicted 16
 predicted_right 10
+parcels 17
+links 18
+waits 19
 in_flight_0 1
 in_flight_1 2
 in_flight_2 3

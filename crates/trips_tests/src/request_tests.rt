@@ -243,6 +243,24 @@ const ASKED: &[Row] = &[
     ),
     (&["run", "--frames=1", "a.c"], Asked { frames: 1, ..PLAIN }),
     (
+        &["run", "--predictor=none", "a.c", "--frames=1"],
+        Asked {
+            predictor: PredictorStart::Unused,
+            frames: 1,
+            ..PLAIN
+        },
+    ),
+    (
+        &["bench", "9", "--predictor", "none"],
+        Asked {
+            file: "9",
+            functions: Some(9),
+            predictor: PredictorStart::Unused,
+            frames: 1,
+            ..PLAIN
+        },
+    ),
+    (
         &["bench", "--predictor", "seeded", "9", "--weather", "seeded"],
         Asked {
             file: "9",
@@ -254,6 +272,14 @@ const ASKED: &[Row] = &[
         &["compile", "a.c"],
         Asked {
             command: Command::Compile,
+            ..PLAIN
+        },
+    ),
+    (
+        &["compile", "--listing", "a.c", "--place=3"],
+        Asked {
+            command: Command::List,
+            place: Some(3),
             ..PLAIN
         },
     ),
@@ -282,6 +308,15 @@ const ASKED: &[Row] = &[
         &["explain", "a.c"],
         Asked {
             command: Command::Explain,
+            ..PLAIN
+        },
+    ),
+    (
+        &["explain", "a.c", "--steps=7", "--input", "t"],
+        Asked {
+            command: Command::Explain,
+            input: Some("t"),
+            most: 7,
             ..PLAIN
         },
     ),

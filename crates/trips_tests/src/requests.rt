@@ -59,6 +59,7 @@ pub fn assert_asked(
     assert!(rt; asked.seed == wanted.seed, "{texts:?}");
     assert!(rt; asked.predictor == wanted.predictor, "{texts:?}");
     assert!(rt; asked.weather == wanted.weather, "{texts:?}");
+    assert!(rt; asked.frames == wanted.frames, "{texts:?}");
     assert!(rt; asked.cycles == wanted.cycles, "{texts:?}");
     assert!(rt; asked.regs == wanted.regs, "{texts:?}");
     assert!(rt; asked.trace == wanted.trace, "{texts:?}");

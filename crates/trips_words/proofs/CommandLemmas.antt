@@ -12,7 +12,8 @@ use Rattle.clap.specs.declared.builder.command.Command.TheViews.{out-Command}
 use Rattle.trips_requests.specs.declared.commands.Verb.{Verb}
 use Rattle.trips_requests.specs.declared.commands.Verb.TheVariants as verb
 use Rattle.trips_requests.specs.Words.{Text, Named, Said, file_name, fourth_name, second_name, third_name, value_said}
-use Rattle.trips_requests.specs.Options.{run_options, bench_options, eval_options, compile_options}
+use Rattle.trips_requests.specs.Options.{run_options, bench_options, eval_options, compile_options, draw_options}
+use Rattle.trips_requests.specs.Options.{explain_options}
 use Rattle.trips_requests.specs.Options.{four_options, record_options, resume_options, save_options, verify_options}
 use Rattle.trips_requests.specs.Options.{options_of, places_of, counted, is_on, Options}
 use Rattle.trips_requests.specs.Verbs.{verb_named}
@@ -38,6 +39,14 @@ bench_read = record {
 -- the command `eval` is read as its words say
 pub eval_read : IsRead (codes "eval") eval_options (file_name ∷ [])
 eval_read = record {
+  builds = refl;
+  simple = refl;
+  has = (record { by_index = refl; by_id = refl; no_option = refl; others = tt; follows = refl }, refl);
+}
+
+-- the command `explain` is read as its words say
+pub explain_read : IsRead (codes "explain") explain_options (file_name ∷ [])
+explain_read = record {
   builds = refl;
   simple = refl;
   has = (record { by_index = refl; by_id = refl; no_option = refl; others = tt; follows = refl }, refl);
@@ -82,7 +91,7 @@ save_read = record {
 }
 
 -- the command `draw` is read as its words say
-pub draw_read : IsRead (codes "draw") compile_options (file_name ∷ second_name ∷ [])
+pub draw_read : IsRead (codes "draw") draw_options (file_name ∷ second_name ∷ [])
 draw_read = record {
   builds = refl;
   simple = refl;
@@ -145,21 +154,21 @@ is_helpless old new e = ap app_of_fields e
 pub of_plain : (P : List Named → List Text → Type 0) (k : Verb) → (k ≡ verb.Run → ⊥) → (k ≡ verb.Bench → ⊥)
     → (k ≡ verb.Evaluate → ⊥) → (k ≡ verb.Compile → ⊥) → (k ≡ verb.Record → ⊥) → (k ≡ verb.Verify → ⊥)
     → (k ≡ verb.Save → ⊥) → (k ≡ verb.Resume → ⊥) → (k ≡ verb.Four → ⊥) → (k ≡ verb.Draw → ⊥)
-    → P [] (file_name ∷ []) → P (options_of k) (places_of k)
-of_plain P verb.Run r b e c d v s u f w h = absurd (r refl)
-of_plain P verb.Bench r b e c d v s u f w h = absurd (b refl)
-of_plain P verb.Evaluate r b e c d v s u f w h = absurd (e refl)
-of_plain P verb.Compile r b e c d v s u f w h = absurd (c refl)
-of_plain P verb.Record r b e c d v s u f w h = absurd (d refl)
-of_plain P verb.Verify r b e c d v s u f w h = absurd (v refl)
-of_plain P verb.Save r b e c d v s u f w h = absurd (s refl)
-of_plain P verb.Resume r b e c d v s u f w h = absurd (u refl)
-of_plain P verb.Four r b e c d v s u f w h = absurd (f refl)
-of_plain P verb.Draw r b e c d v s u f w h = absurd (w refl)
-of_plain P verb.Assemble r b e c d v s u f w h = h
-of_plain P verb.Disassemble r b e c d v s u f w h = h
-of_plain P verb.Check r b e c d v s u f w h = h
-of_plain P verb.Explain r b e c d v s u f w h = h
+    → (k ≡ verb.Explain → ⊥) → P [] (file_name ∷ []) → P (options_of k) (places_of k)
+of_plain P verb.Run r b e c d v s u f w x h = absurd (r refl)
+of_plain P verb.Bench r b e c d v s u f w x h = absurd (b refl)
+of_plain P verb.Evaluate r b e c d v s u f w x h = absurd (e refl)
+of_plain P verb.Compile r b e c d v s u f w x h = absurd (c refl)
+of_plain P verb.Record r b e c d v s u f w x h = absurd (d refl)
+of_plain P verb.Verify r b e c d v s u f w x h = absurd (v refl)
+of_plain P verb.Save r b e c d v s u f w x h = absurd (s refl)
+of_plain P verb.Resume r b e c d v s u f w x h = absurd (u refl)
+of_plain P verb.Four r b e c d v s u f w x h = absurd (f refl)
+of_plain P verb.Draw r b e c d v s u f w x h = absurd (w refl)
+of_plain P verb.Assemble r b e c d v s u f w x h = h
+of_plain P verb.Disassemble r b e c d v s u f w x h = h
+of_plain P verb.Check r b e c d v s u f w x h = h
+of_plain P verb.Explain r b e c d v s u f w x h = absurd (x refl)
 
 -- requests ----------------------------------------------------------------------------------------
 
@@ -243,11 +252,11 @@ pub found_on : (options : List Named) (said : Said) (m : ArgMatches) (name : Tex
 found_on options said m name f = ap is_on (f name) ∙ on_is (is_flag name options) (value_said name said)
 
 -- options by their parts
-abbrev pub options_by : Option Text → Option Text → Option Text → Option Text → Option Text → Option Text
-    → Option Text → Option Text → Option Text → Option Text → Option Text → Bool → Bool → Bool → Bool
-    → Option Text → Options
-options_by second third fourth input number place unroll seed predictor weather frames regs trace cycles stats
-    events =
+abbrev pub options_by : Option Text → Option Text → Option Text → Option Text → Option Text → Option Text → Option
+    Text → Option Text → Option Text → Option Text → Option Text → Bool → Bool → Bool → Bool → Option Text → Bool →
+    Bool → Options
+options_by second third fourth input number place unroll seed predictor weather frames regs trace cycles stats events
+    listing trap =
     record {
       second = second;
       third = third;
@@ -265,54 +274,59 @@ options_by second third fourth input number place unroll seed predictor weather 
       cycles = cycles;
       stats = stats;
       events = events;
+      listing = listing;
+      trap = trap;
     }
 
 -- options that are the same part by part
 pub same_options : (second second' third third' fourth fourth' input input' number number' place place' unroll
     unroll' seed seed' predictor predictor' weather weather' frames frames' : Option Text) (regs regs' trace trace'
-    cycles cycles' stats stats' : Bool) (events events' : Option Text) → second ≡ second' → third ≡ third'
-    → fourth ≡ fourth' → input ≡ input' → number ≡ number' → place ≡ place' → unroll ≡ unroll' → seed ≡ seed'
-    → predictor ≡ predictor' → weather ≡ weather' → frames ≡ frames' → regs ≡ regs' → trace ≡ trace'
-    → cycles ≡ cycles' → stats ≡ stats' → events ≡ events'
-    → options_by second third fourth input number place unroll seed predictor weather frames regs trace cycles stats
-    events
-    ≡ options_by second' third' fourth' input' number' place' unroll' seed' predictor' weather' frames' regs' trace'
-    cycles' stats' events'
+    cycles cycles' stats stats' : Bool) (events events' : Option Text) (listing listing' trap trap' : Bool) → second
+    ≡ second' → third ≡ third' → fourth ≡ fourth' → input ≡ input' → number ≡ number' → place ≡ place' → unroll ≡
+    unroll' → seed ≡ seed' → predictor ≡ predictor' → weather ≡ weather' → frames ≡ frames' → regs ≡ regs' → trace ≡
+    trace' → cycles ≡ cycles' → stats ≡ stats' → events ≡ events' → listing ≡ listing' → trap ≡ trap' → options_by
+    second third fourth input number place unroll seed predictor weather frames regs trace cycles stats events
+    listing trap ≡ options_by second' third' fourth' input' number' place' unroll' seed' predictor' weather' frames'
+    regs' trace' cycles' stats' events' listing' trap'
 same_options second second' third third' fourth fourth' input input' number number' place place' unroll unroll' seed
     seed' predictor predictor' weather weather' frames frames' regs regs' trace trace' cycles cycles' stats stats'
-    events events' p1 p2 p3 p4 p5 p6 p7 p8 p9 p10 p11 p12 p13 p14 p15 p16 =
+    events events' listing listing' trap trap' p1 p2 p3 p4 p5 p6 p7 p8 p9 p10 p11 p12 p13 p14 p15 p16 p17 p18 =
     ap (λ (x : Option Text). options_by x third fourth input number place unroll seed predictor weather frames regs
-    trace cycles stats events) p1
+    trace cycles stats events listing trap) p1
     ∙ ap (λ (x : Option Text). options_by second' x fourth input number place unroll seed predictor weather frames
-    regs trace cycles stats events) p2
+    regs trace cycles stats events listing trap) p2
     ∙ ap (λ (x : Option Text). options_by second' third' x input number place unroll seed predictor weather frames
-    regs trace cycles stats events) p3
+    regs trace cycles stats events listing trap) p3
     ∙ ap (λ (x : Option Text). options_by second' third' fourth' x number place unroll seed predictor weather frames
-    regs trace cycles stats events) p4
+    regs trace cycles stats events listing trap) p4
     ∙ ap (λ (x : Option Text). options_by second' third' fourth' input' x place unroll seed predictor weather frames
-    regs trace cycles stats events) p5
+    regs trace cycles stats events listing trap) p5
     ∙ ap (λ (x : Option Text). options_by second' third' fourth' input' number' x unroll seed predictor weather
-    frames regs trace cycles stats events) p6
+    frames regs trace cycles stats events listing trap) p6
     ∙ ap (λ (x : Option Text). options_by second' third' fourth' input' number' place' x seed predictor weather
-    frames regs trace cycles stats events) p7
+    frames regs trace cycles stats events listing trap) p7
     ∙ ap (λ (x : Option Text). options_by second' third' fourth' input' number' place' unroll' x predictor weather
-    frames regs trace cycles stats events) p8
-    ∙ ap (λ (x : Option Text). options_by second' third' fourth' input' number' place' unroll' seed' x weather
-    frames regs trace cycles stats events) p9
+    frames regs trace cycles stats events listing trap) p8
+    ∙ ap (λ (x : Option Text). options_by second' third' fourth' input' number' place' unroll' seed' x weather frames
+    regs trace cycles stats events listing trap) p9
     ∙ ap (λ (x : Option Text). options_by second' third' fourth' input' number' place' unroll' seed' predictor' x
-    frames regs trace cycles stats events) p10
+    frames regs trace cycles stats events listing trap) p10
     ∙ ap (λ (x : Option Text). options_by second' third' fourth' input' number' place' unroll' seed' predictor'
-    weather' x regs trace cycles stats events) p11
+    weather' x regs trace cycles stats events listing trap) p11
     ∙ ap (λ (x : Bool). options_by second' third' fourth' input' number' place' unroll' seed' predictor' weather'
-    frames' x trace cycles stats events) p12
+    frames' x trace cycles stats events listing trap) p12
     ∙ ap (λ (x : Bool). options_by second' third' fourth' input' number' place' unroll' seed' predictor' weather'
-    frames' regs' x cycles stats events) p13
+    frames' regs' x cycles stats events listing trap) p13
     ∙ ap (λ (x : Bool). options_by second' third' fourth' input' number' place' unroll' seed' predictor' weather'
-    frames' regs' trace' x stats events) p14
+    frames' regs' trace' x stats events listing trap) p14
     ∙ ap (λ (x : Bool). options_by second' third' fourth' input' number' place' unroll' seed' predictor' weather'
-    frames' regs' trace' cycles' x events) p15
+    frames' regs' trace' cycles' x events listing trap) p15
     ∙ ap (λ (x : Option Text). options_by second' third' fourth' input' number' place' unroll' seed' predictor'
-    weather' frames' regs' trace' cycles' stats' x) p16
+    weather' frames' regs' trace' cycles' stats' x listing trap) p16
+    ∙ ap (λ (x : Bool). options_by second' third' fourth' input' number' place' unroll' seed' predictor' weather'
+    frames' regs' trace' cycles' stats' events' x trap) p17
+    ∙ ap (λ (x : Bool). options_by second' third' fourth' input' number' place' unroll' seed' predictor' weather'
+    frames' regs' trace' cycles' stats' events' listing' x) p18
 
 -- where something was found, words say something, and else they say nothing
 pub told_some : (k : Verb) (said : Option Said) (m : ArgMatches) (r : Option Request)

@@ -39,6 +39,8 @@ fn options_found<'a>(command: Verb, matches: &ArgMatches<'a>) -> FoundOptions<'a
         cycles: is_on(matches.get_str("cycles")),
         stats: is_on(matches.get_str("stats")),
         events: matches.get_str("events"),
+        listing: is_on(matches.get_str("listing")),
+        trap: is_on(matches.get_str("trap")),
     }
 }
 

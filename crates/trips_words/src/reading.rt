@@ -6,7 +6,8 @@ ghost use Rattle.clap.specs.declared.error.kind.ErrorKind.TheVariants.{OutOfMemo
 ghost use Rattle.trips_requests.specs.Words.{Text, Named, file_name, fourth_name, second_name, third_name};
 ghost use Rattle.trips_requests.specs.Words.{words_read, valued, flag};
 ghost use Rattle.trips_requests.specs.Options.{options_of, places_of, run_options, bench_options, eval_options};
-ghost use Rattle.trips_requests.specs.Options.{compile_options, four_options, record_options, resume_options};
+ghost use Rattle.trips_requests.specs.Options.{compile_options, draw_options, four_options, record_options};
+ghost use Rattle.trips_requests.specs.Options.{explain_options, resume_options};
 ghost use Rattle.trips_requests.specs.Options.{save_options, verify_options};
 ghost use Rattle.trips_words.specs.inside.Read.{raw_rule, raw_app, IsRead, Tells};
 
@@ -93,6 +94,18 @@ fn eval_command<'a>(alloc: Global) -> Result<clap::Command<'a>, AllocError>
         .arg(Arg::new(alloc, FILE))
 }
 
+// `explain`, its options and its file.
+fn explain_command<'a>(alloc: Global) -> Result<clap::Command<'a>, AllocError>
+    ensures { IfOk result (λ command. app_of command ≡ raw_app (codes "explain") explain_options (file_name ∷ [])) }
+{
+    clap::Command::new(alloc, "explain")
+        .disable_help_flag(true)
+        .arg(valued(alloc, "input"))?
+        .arg(valued(alloc, "steps"))?
+        .arg(flag(alloc, "trap"))?
+        .arg(Arg::new(alloc, FILE))
+}
+
 // `compile`, its options and its file.
 fn compile_command<'a>(alloc: Global) -> Result<clap::Command<'a>, AllocError>
     ensures { IfOk result (λ command. app_of command ≡ raw_app (codes "compile") compile_options (file_name ∷ [])) }
@@ -101,6 +114,7 @@ fn compile_command<'a>(alloc: Global) -> Result<clap::Command<'a>, AllocError>
         .disable_help_flag(true)
         .arg(valued(alloc, "place"))?
         .arg(valued(alloc, "unroll"))?
+        .arg(flag(alloc, "listing"))?
         .arg(Arg::new(alloc, FILE))
 }
 
@@ -179,7 +193,7 @@ fn four_command<'a>(alloc: Global) -> Result<clap::Command<'a>, AllocError>
 // `draw`, its options, its file and the number of its block.
 fn draw_command<'a>(alloc: Global) -> Result<clap::Command<'a>, AllocError>
     ensures { IfOk result (λ command. app_of command
-        ≡ raw_app (codes "draw") compile_options (file_name ∷ second_name ∷ [])) }
+        ≡ raw_app (codes "draw") draw_options (file_name ∷ second_name ∷ [])) }
 {
     clap::Command::new(alloc, "draw")
         .disable_help_flag(true)
@@ -242,6 +256,7 @@ pub fn read<'a>(
         Verb::Bench => matched(bench_command(alloc)?, words),
         Verb::Evaluate => matched(eval_command(alloc)?, words),
         Verb::Compile => matched(compile_command(alloc)?, words),
+        Verb::Explain => matched(explain_command(alloc)?, words),
         Verb::Record => matched(record_command(alloc)?, words),
         Verb::Verify => matched(verify_command(alloc)?, words),
         Verb::Save => matched(save_command(alloc)?, words),

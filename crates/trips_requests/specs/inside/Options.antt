@@ -23,4 +23,6 @@ options_seen options = record {
   cycles = options.cycles;
   stats = options.stats;
   events = option_copied options.events;
+  listing = options.listing;
+  trap = options.trap;
 }

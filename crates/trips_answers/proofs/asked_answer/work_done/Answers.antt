@@ -6,8 +6,8 @@ use Rattle.trips_answers.specs.declared.forms.FileForm.{FileForm}
 use Rattle.trips_answers.specs.Asks.{limit_of}
 use Rattle.trips_answers.specs.Request.{form_of}
 use Rattle.trips_answers.specs.declared.forms.Settings.{Settings}
-use Rattle.trips_answers.proofs.Told.{evaluate_told, few_bytes, run_form_told, compile_told, tool_told}
-use Rattle.trips_answers.proofs.Told.{explain_told, record_told, work_is}
+use Rattle.trips_answers.proofs.Told.{evaluate_told, few_bytes, run_form_told, compile_told, list_told, tool_told}
+use Rattle.trips_answers.proofs.Told.{explain_told, record_told, trap_done_told, work_is}
 use Rattle.trips_answers.proofs.DrawnTold.{draw_form_told}
 use Rattle.trips_answers.proofs.SavedTold.{save_form_told}
 use Rattle.trips_answers.proofs.asked_answer.work_done.Goals as goal
@@ -19,6 +19,16 @@ text_evaluated-requires c =
 
 pub file_explained-requires : goal.file_explained-requires
 file_explained-requires c =
+    let few = few_bytes (form_of c.args.asked.command c.args.asked.file.now) in
+    omega (arith, few, c.requires.few)
+
+pub text_listed-requires-clause-few : goal.text_listed-requires-clause-few
+text_listed-requires-clause-few c =
+    let few = few_bytes (form_of c.args.asked.command c.args.asked.file.now) in
+    omega (arith, few, c.requires.few)
+
+pub trap_explained-requires : goal.trap_explained-requires
+trap_explained-requires c =
     let few = few_bytes (form_of c.args.asked.command c.args.asked.file.now) in
     omega (arith, few, c.requires.few)
 
@@ -59,6 +69,11 @@ returns-in-Compile c = compile_told _ _ _ _ _ _ _ _ (work_is c.args.asked.file.n
     (sym (ap (λ (t : Settings). t.placing) c.settings_for-settings.ensures))
     (sym (ap (λ (t : Settings). t.unroll) c.settings_for-settings.ensures)) c.text_compiled.ensures
 
+pub returns-in-List : goal.returns-in-List
+returns-in-List c = list_told _ _ _ _ _ _ _ _ (work_is c.args.asked.file.now c.in-List.is)
+    (sym (ap (λ (t : Settings). t.placing) c.settings_for-settings.ensures))
+    (sym (ap (λ (t : Settings). t.unroll) c.settings_for-settings.ensures)) c.text_listed.ensures
+
 pub returns-in-Assemble : goal.returns-in-Assemble
 returns-in-Assemble c = tool_told _ Assemble _ _ _ _ _ (work_is c.args.asked.file.now c.in-Assemble.is)
     c.tool_done.ensures
@@ -72,8 +87,13 @@ returns-in-Check c = tool_told _ Check _ _ _ _ _ (work_is c.args.asked.file.now 
     c.tool_done-in-Check.ensures
 
 pub returns-in-Explain : goal.returns-in-Explain
-returns-in-Explain c = explain_told _ _ _ _ _ _ _ (work_is c.args.asked.file.now c.in-Explain.is)
+returns-in-Explain c = explain_told _ _ _ _ _ _ _ _ _ (work_is c.args.asked.file.now c.in-Explain.is)
+    (sym (ap (λ (t : Settings). t.most) c.settings_for-settings.ensures)) c.as_slice-in-Explain.ensures.value
     c.file_explained.ensures
+
+pub returns-in-Trap : goal.returns-in-Trap
+returns-in-Trap c = trap_done_told _ _ _ _ _ _ _ _ (work_is c.args.asked.file.now c.in-Trap.is)
+    (sym (ap (λ (t : Settings). t.most) c.settings_for-settings.ensures)) c.trap_explained.ensures
 
 pub returns-in-Record : goal.returns-in-Record
 returns-in-Record c = record_told _ _ _ _ _ _ _ (work_is c.args.asked.file.now c.in-Record.is)

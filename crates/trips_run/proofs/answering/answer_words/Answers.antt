@@ -46,6 +46,11 @@ returns-clause-compiled g c =
     λ how most show text input program call is. reported.compiled _ _ _ _ _ _ _ c.answer_written.ensures.answered
     how most show text input program call.asks is call.undisturbed.read call.undisturbed.written call.memory
 
+pub returns-clause-listed : goal.returns-clause-listed
+returns-clause-listed g c =
+    λ how most show text input program call is. reported.listed _ _ _ _ _ _ _ c.answer_written.ensures.answered
+    how most show text input program call.asks is call.undisturbed.read call.undisturbed.written call.memory
+
 pub returns-clause-shown_fours : goal.returns-clause-shown_fours
 returns-clause-shown_fours g c =
     λ how most show bytes input others call told can. four.runs _ _ _ _ _ _ _ c.answer_written.ensures.answered

@@ -35,10 +35,20 @@ returns-clause-compiled g c =
     λ how most show text input program call is. promises.compiled _ _ _ _ _ _ _ c.answer_words.ensures.answered
     how most show text input program call.asks is call.undisturbed.read call.undisturbed.written call.memory
 
+pub returns-clause-listed : goal.returns-clause-listed
+returns-clause-listed g c =
+    λ how most show text input program call is. promises.listed _ _ _ _ _ _ _ c.answer_words.ensures.answered
+    how most show text input program call.asks is call.undisturbed.read call.undisturbed.written call.memory
+
 pub returns-clause-made : goal.returns-clause-made
 returns-clause-made g c =
     λ work how most show bytes input made call is. promises.made _ _ _ _ _ _ _ c.answer_words.ensures.answered
     work how most show bytes input made call.asks is call.undisturbed.read call.undisturbed.written call.memory
+
+pub returns-clause-trapped : goal.returns-clause-trapped
+returns-clause-trapped g c =
+    λ file how most show text input told call is. promises.trapped _ _ _ _ _ _ _ c.answer_words.ensures.answered
+    file how most show text input told call.asks is call.undisturbed.read call.undisturbed.written call.memory
 
 pub returns-clause-recorded : goal.returns-clause-recorded
 returns-clause-recorded g c =

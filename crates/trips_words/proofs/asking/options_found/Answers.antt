@@ -13,7 +13,7 @@ returns c said f =
     let k = c.args.command in
     let m = c.args.matches.now in
     let o = options_of k in
-    same_options _ _ _ _ _ _ _ _ _ _ _ _ _ _ _ _ _ _ _ _ _ _ _ _ _ _ _ _ _ _ _ _
+    same_options _ _ _ _ _ _ _ _ _ _ _ _ _ _ _ _ _ _ _ _ _ _ _ _ _ _ _ _ _ _ _ _ _ _ _ _
     (c.get_str.ensures ∙ found_said o said m second_name f (no_flag_second k))
     (c.get_str-2.ensures ∙ found_said o said m third_name f (no_flag_third k))
     (c.get_str-3.ensures ∙ found_said o said m fourth_name f (no_flag_fourth k))
@@ -31,3 +31,5 @@ returns c said f =
     (c.is_on-3.ensures ∙ ap is_on c.get_str-14.ensures ∙ found_on o said m (codes "cycles") f)
     (c.is_on-4.ensures ∙ ap is_on c.get_str-15.ensures ∙ found_on o said m (codes "stats") f)
     (c.get_str-16.ensures ∙ found_said o said m (codes "events") f (no_flag_events k))
+    (c.is_on-5.ensures ∙ ap is_on c.get_str-17.ensures ∙ found_on o said m (codes "listing") f)
+    (c.is_on-6.ensures ∙ ap is_on c.get_str-18.ensures ∙ found_on o said m (codes "trap") f)

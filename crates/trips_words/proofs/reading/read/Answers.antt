@@ -3,11 +3,13 @@ use Rattle.std.specs.Prelude.{string_bytes}
 use Rattle.trips_requests.specs.declared.commands.Verb.{Verb}
 use Rattle.trips_requests.specs.declared.commands.Verb.TheVariants as verb
 use Rattle.trips_requests.specs.Words.{Text, Named, words_read}
-use Rattle.trips_requests.specs.Options.{run_options, bench_options, eval_options, compile_options}
+use Rattle.trips_requests.specs.Options.{run_options, bench_options, eval_options, compile_options, draw_options}
+use Rattle.trips_requests.specs.Options.{explain_options}
 use Rattle.trips_requests.specs.Options.{four_options, record_options, resume_options, save_options, verify_options}
 use Rattle.trips_requests.specs.Options.{options_of, places_of}
 use Rattle.trips_words.specs.inside.Read.{Tells}
 use Rattle.trips_words.proofs.CommandLemmas.{run_read, bench_read, eval_read, compile_read, plain_read, of_plain}
+use Rattle.trips_words.proofs.CommandLemmas.{explain_read}
 use Rattle.trips_words.proofs.CommandLemmas.{draw_read, four_read, record_read, resume_read, save_read, verify_read}
 use Rattle.trips_words.proofs.reading.read.Goals as goal
 
@@ -42,6 +44,14 @@ returns-in_ok-compile_command-in-Compile c =
     (Tells (options_of k) (words_read (options_of k) (places_of k) None [] words))) (sym c.in-Compile.is)
     (c.matched-in-Compile.ensures (codes "compile") compile_options (places_of verb.Compile) compile_read
     c.in_ok-compile_command-in-Compile.ensures)
+
+pub returns-in_ok-explain_command-in-Explain : goal.returns-in_ok-explain_command-in-Explain
+returns-in_ok-explain_command-in-Explain c =
+    let words : List Text = drop 1 (map (λ word. string_bytes word) c.args.words.now) in
+    subst (λ (k : Verb). IfOk c.matched-in-Explain.result
+    (Tells (options_of k) (words_read (options_of k) (places_of k) None [] words))) (sym c.in-Explain.is)
+    (c.matched-in-Explain.ensures (codes "explain") explain_options (places_of verb.Explain) explain_read
+    c.in_ok-explain_command-in-Explain.ensures)
 
 pub returns-in_ok-record_command-in-Record : goal.returns-in_ok-record_command-in-Record
 returns-in_ok-record_command-in-Record c =
@@ -88,7 +98,7 @@ returns-in_ok-draw_command-in-Draw c =
     let words : List Text = drop 1 (map (λ word. string_bytes word) c.args.words.now) in
     subst (λ (k : Verb). IfOk c.matched-in-Draw.result
     (Tells (options_of k) (words_read (options_of k) (places_of k) None [] words))) (sym c.in-Draw.is)
-    (c.matched-in-Draw.ensures (codes "draw") compile_options (places_of verb.Draw) draw_read
+    (c.matched-in-Draw.ensures (codes "draw") draw_options (places_of verb.Draw) draw_read
     c.in_ok-draw_command-in-Draw.ensures)
 
 pub returns-in_ok-plain_command-in_default : goal.returns-in_ok-plain_command-in_default
@@ -97,6 +107,6 @@ returns-in_ok-plain_command-in_default c =
     of_plain (λ o p. IfOk c.matched-in_default.result (Tells o (words_read o p None [] words))) c.args.command
     c.in_default.not-Run c.in_default.not-Bench c.in_default.not-Evaluate c.in_default.not-Compile
     c.in_default.not-Record c.in_default.not-Verify c.in_default.not-Save c.in_default.not-Resume
-    c.in_default.not-Four c.in_default.not-Draw
+    c.in_default.not-Four c.in_default.not-Draw c.in_default.not-Explain
     (c.matched-in_default.ensures (codes "trips") [] (places_of verb.Check) plain_read
     c.in_ok-plain_command-in_default.ensures)
