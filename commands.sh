@@ -139,9 +139,9 @@ article() {
 }
 
 # What the words say: values under the names of options, words that stand alone under their places, counted from 1; the
-# command; and what is wrong.
+# command; what is wrong; and whether JSON is asked for.
 declare -A said=()
-command='' fault='' near='' apart=0
+command='' fault='' near='' apart=0 json=''
 
 # A word as it can be typed, where it has bytes that a terminal would not show.
 shown() {
@@ -262,9 +262,15 @@ judge_said() {
     [ -z "${choices[$name]-}" ] || judge_word "${said[$name]}" "$name" || return
   done
   [ "${said[--events]+y}${said[--stats]+y}" != yy ] || wrong "--events and --stats are of two runs" || return
+  [ "${said[--predictor]-}" != none ] || [ "${said[--frames]-1}" -eq 1 ] || wrong "--predictor none is of one frame" || return
   for name in --place --unroll; do
     case $command${said[$name]+y}${said[1]} in
       runy*.img | runy*.tasl | compiley*.img | compiley*.tasl | drawy*.img | drawy*.tasl) wrong "$name is said of C alone" || return ;;
+    esac
+  done
+  for name in --input --steps --trap; do
+    case $command${said[$name]+y}${said[1]} in
+      explainy*.img | explainy*.tasl) wrong "$name is said of C alone" || return ;;
     esac
   done
   case $command/${said[1]} in
@@ -273,9 +279,22 @@ judge_said() {
   esac
 }
 
+# Takes the word that asks for JSON, which may stand anywhere, out of the words: `rest`, and whether it stands there:
+# `json`.
+take_json() {
+  local word
+  json='' rest=()
+  for word in "$@"; do
+    if [ "$word" = --json ]; then json=y; else rest+=("$word"); fi
+  done
+}
+
 # Whether the words make a request.
 judge() {
   local LC_ALL=C
+  local -a rest
+  take_json "$@"
+  set -- ${rest[@]+"${rest[@]}"}
   case "$*" in
     *[!\ -~]*) printf '%s' "$*" | iconv -f UTF-8 -t UTF-8 >/dev/null 2>&1 || wrong "a word is not UTF-8" || return ;;
   esac
